@@ -1,0 +1,53 @@
+// The types of DDC/CI messages, the answer numbers and the limits. What they mean stands in specs/, and the theorems in proofs/.
+pub mod answer;
+pub mod limits;
+
+// Which way a message goes: to the display (the papers' board) or to the host (their post).
+pub enum Direction {
+    Request,
+    Reply,
+}
+
+// The pair of address bytes of a message: its first byte, and the byte that its checksum starts from.
+pub struct Address {
+    pub first: u8,
+    pub seed: u8,
+}
+
+// A text offset counts bytes of a whole text. No function takes it for a position.
+pub struct TextOffset(pub u16);
+
+// A position counts bytes of one slice: a message, a capabilities string, a profile (the papers' place). No function takes it for a text offset.
+pub struct Position(pub usize);
+
+// The rows of document 01's table of messages, the null message aside.
+pub enum RequestKind {
+    Get,
+    Set,
+    Timing,
+    Save,
+    Text,
+    TableRead,
+    TableWrite,
+}
+
+pub enum ReplyKind {
+    Value,
+    TimingReply,
+    TextFragment,
+    TableFragment,
+}
+
+pub enum Kind {
+    Request(RequestKind),
+    Reply(ReplyKind),
+}
+
+// What stands behind the command number, in this order: so many single bytes, so many 16-bit words, at most so much data; then whether the length byte is plain.
+pub struct Layout(pub usize, pub usize, pub usize, pub bool);
+
+// What the table says of a command number.
+pub enum Row {
+    Known(Kind, Layout),
+    Unknown,
+}

@@ -1,0 +1,15 @@
+// Document 01's limits on messages, as specs/Limits.antt defines them.
+
+// The most bytes of a body, to the display and to the host.
+pub const LONGEST_REQUEST: usize = 35;
+
+pub const LONGEST_REPLY: usize = 35;
+
+// The most data bytes of a Table write.
+pub const MOST_WRITTEN: usize = 31;
+
+// The most data bytes of a fragment.
+pub const MOST_FRAGMENT: usize = 32;
+
+// The bytes of output that every builder asks for: the longest message.
+pub const OUTPUT_ROOM: usize = 38;

@@ -13,12 +13,9 @@ use Rattle.checksum.specs.Bytes as byte
 use Rattle.checksum.specs.Bytes.{Bytes}
 use Rattle.checksum.proofs.Bytes.{bytes-take, bytes-drop}
 use Rattle.message_rules.specs.declared.Direction.{Direction}
-use Rattle.message_rules.specs.declared.Kind.{Kind}
-use Rattle.message_rules.specs.declared.Layout.{Layout}
-use Rattle.message_rules.specs.declared.Row.{Row}
-use Rattle.message_rules.specs.declared.Row.the-variants.{Known, Unknown}
+use Rattle.message_rules.specs.Row.{Layout, Kind, Row, Known, Unknown}
 use Rattle.message_rules.specs.Read.{Read, ok, refused, require}
-use Rattle.message_rules.specs.Layout.{entry, directionOf, layoutOf, bytesOf, wordsOf, mostOf, least, longest, rule, rowOf}
+use Rattle.message_rules.specs.Layout.{entry, directionOf, layoutOf, least, longest, rule, rowOf}
 use Rattle.message_rules.specs.Body.{Body, fields, behind, encodeBody, word, wordsIn, split, lengthAllowed, byRow, decodeBody, emptyAnswer, Words, none, more, ValidBody}
 use Rattle.message_rules.proofs.Tests.{require-ok, and-true}
 use Rattle.message_rules.proofs.Rows.{right, found}
@@ -67,12 +64,12 @@ module _ (b : Body) (v : ValidBody b) where
   split-back =
       let l : Layout = layoutOf (b .kind) in
       let tail : List ℕ = fields (b .words) ++ b .rest in
-      let e1 : take (bytesOf l) (behind b) ≡ b .bytes = take-at (b .bytes) tail (bytesOf l) (v .bytesCount) in
-      let e2 : drop (bytesOf l) (behind b) ≡ tail = drop-at (b .bytes) tail (bytesOf l) (v .bytesCount) in
-      let e3 : wordsIn (wordsOf l) tail ≡ b .words = ap (λ (n : ℕ). wordsIn n tail) (sym (v .wordsCount)) ∙ words-back (b .words) (b .rest) in
-      let n : length (fields (b .words)) ≡ 2 * wordsOf l = length-fields (b .words) ∙ ap (λ (k : ℕ). 2 * k) (v .wordsCount) in
-      let e4 : drop (least l) (behind b) ≡ b .rest = sym (drop-drop (2 * wordsOf l) (bytesOf l) (behind b)) ∙ ap (drop (2 * wordsOf l)) e2 ∙ drop-at (fields (b .words)) (b .rest) (2 * wordsOf l) n in
-      ap₂ (λ (x y : List ℕ). record { kind = b .kind; bytes = x; words = wordsIn (wordsOf l) y; rest = drop (least l) (behind b) }) e1 e2
+      let e1 : take (l .bytes) (behind b) ≡ b .bytes = take-at (b .bytes) tail (l .bytes) (v .bytesCount) in
+      let e2 : drop (l .bytes) (behind b) ≡ tail = drop-at (b .bytes) tail (l .bytes) (v .bytesCount) in
+      let e3 : wordsIn (l .words) tail ≡ b .words = ap (λ (n : ℕ). wordsIn n tail) (sym (v .wordsCount)) ∙ words-back (b .words) (b .rest) in
+      let n : length (fields (b .words)) ≡ 2 * l .words = length-fields (b .words) ∙ ap (λ (k : ℕ). 2 * k) (v .wordsCount) in
+      let e4 : drop (least l) (behind b) ≡ b .rest = sym (drop-drop (2 * l .words) (l .bytes) (behind b)) ∙ ap (drop (2 * l .words)) e2 ∙ drop-at (fields (b .words)) (b .rest) (2 * l .words) n in
+      ap₂ (λ (x y : List ℕ). record { kind = b .kind; bytes = x; words = wordsIn (l .words) y; rest = drop (least l) (behind b) }) e1 e2
       ∙ ap₂ (λ (x y : List ℕ). record { kind = b .kind; bytes = b .bytes; words = x; rest = y }) e3 e4
 
   pub body-decoded : decodeBody (directionOf (b .kind)) (encodeBody b) ≡ ok b
@@ -82,10 +79,10 @@ module _ (b : Body) (v : ValidBody b) where
       let n : ℕ = length (behind b) in
       let e0 : least l ≤ n = omega (arith, length-behind b, v .bytesCount, v .wordsCount) in
       let e1 : leb (least l) n ≡ true = le-leb (least l) n (omega (arith, length-behind b, v .bytesCount, v .wordsCount)) in
-      let e2 : leb n (least l + mostOf l) ≡ true = le-leb n (least l + mostOf l) (omega (arith, length-behind b, v .bytesCount, v .wordsCount, v .restCount)) in
-      let e3 : rule (b .kind) (take (bytesOf l) (behind b)) ≡ true = ap (λ (x : Body). rule (b .kind) (x .bytes)) split-back ∙ v .ruled in
+      let e2 : leb n (least l + l .most) ≡ true = le-leb n (least l + l .most) (omega (arith, length-behind b, v .bytesCount, v .wordsCount, v .restCount)) in
+      let e3 : rule (b .kind) (take (l .bytes) (behind b)) ≡ true = ap (λ (x : Body). rule (b .kind) (x .bytes)) split-back ∙ v .ruled in
       ap (λ (r : Row). byRow r (behind b)) (right (b .kind) .found)
-      ∙ ap₂ (λ (x y : Bool). require (x && y && rule (b .kind) (take (bytesOf l) (behind b))) 7 (ok (split (b .kind) l (behind b)))) e1 e2
+      ∙ ap₂ (λ (x y : Bool). require (x && y && rule (b .kind) (take (l .bytes) (behind b))) 7 (ok (split (b .kind) l (behind b)))) e1 e2
       ∙ ap₂ (λ (x : Bool) (y : Body). require x 7 (ok y)) e3 split-back
 
   pub body-short : length (encodeBody b) ≤ longest (directionOf (b .kind))
@@ -103,24 +100,24 @@ module _ (c : Kind) {f : List ℕ} (y : Bytes f) (b : Body) where
   unfolding byRow
   row-decoded e =
       let l : Layout = layoutOf c in
-      let r = require-ok (lengthAllowed l (length f) && rule c (take (bytesOf l) f)) 7 (ok (split c l f)) b e in
-      let t = and-true (lengthAllowed l (length f)) (rule c (take (bytesOf l) f)) (r .0) in
-      let u = and-true (leb (least l) (length f)) (leb (length f) (least l + mostOf l)) (t .0) in
+      let r = require-ok (lengthAllowed l (length f) && rule c (take (l .bytes) f)) 7 (ok (split c l f)) b e in
+      let t = and-true (lengthAllowed l (length f)) (rule c (take (l .bytes) f)) (r .0) in
+      let u = and-true (leb (least l) (length f)) (leb (length f) (least l + l .most)) (t .0) in
       let low : least l ≤ length f = leb-true (least l) (length f) (u .0) in
-      let high : length f ≤ least l + mostOf l = leb-true (length f) (least l + mostOf l) (u .1) in
+      let high : length f ≤ least l + l .most = leb-true (length f) (least l + l .most) (u .1) in
       let same : split c l f ≡ b = cc (r .1) in
-      let g : List ℕ = drop (bytesOf l) f in
-      let room : 2 * wordsOf l ≤ length g = omega (arith, length-drop (bytesOf l) f) in
+      let g : List ℕ = drop (l .bytes) f in
+      let room : 2 * l .words ≤ length g = omega (arith, length-drop (l .bytes) f) in
       let whole : behind (split c l f) ≡ f =
-      ap (λ (x : List ℕ). take (bytesOf l) f ++ (fields (wordsIn (wordsOf l) g) ++ x)) (sym (drop-drop (2 * wordsOf l) (bytesOf l) f))
-      ∙ ap (λ (x : List ℕ). take (bytesOf l) f ++ x) (fields-back (wordsOf l) (bytes-drop (bytesOf l) y) room)
-      ∙ take-append-drop (bytesOf l) f in
+      ap (λ (x : List ℕ). take (l .bytes) f ++ (fields (wordsIn (l .words) g) ++ x)) (sym (drop-drop (2 * l .words) (l .bytes) f))
+      ∙ ap (λ (x : List ℕ). take (l .bytes) f ++ x) (fields-back (l .words) (bytes-drop (l .bytes) y) room)
+      ∙ take-append-drop (l .bytes) f in
       let good : ValidBody (split c l f) = record {
-        bytesCount = length-take-le (bytesOf l) f (omega arith);
-        wordsCount = length-words (wordsOf l) g;
+        bytesCount = length-take-le (l .bytes) f (omega arith);
+        wordsCount = length-words (l .words) g;
         restCount = omega (arith, length-drop (least l) f);
-        bytesFit = bytes-take (bytesOf l) y;
-        wordsFit = words-fit (wordsOf l) (bytes-drop (bytesOf l) y) room;
+        bytesFit = bytes-take (l .bytes) y;
+        wordsFit = words-fit (l .words) (bytes-drop (l .bytes) y) room;
         restFit = bytes-drop (least l) y;
         ruled = t .1;
       } in

@@ -11,12 +11,9 @@ use Rattle.checksum.specs.Xor.{xorAll}
 use Rattle.message_rules.specs.declared.Address.{Address}
 use Rattle.message_rules.specs.declared.Direction.{Direction}
 use Rattle.message_rules.specs.declared.Direction.the-variants as way
-use Rattle.message_rules.specs.declared.Kind.{Kind}
-use Rattle.message_rules.specs.declared.Layout.{Layout}
-use Rattle.message_rules.specs.declared.Row.{Row}
-use Rattle.message_rules.specs.declared.Row.the-variants.{Known, Unknown}
+use Rattle.message_rules.specs.Row.{Layout, Kind, Row, Known, Unknown}
 use Rattle.message_rules.specs.Read.{Read, ok, refused, answerOf, unless, require, after, andThen}
-use Rattle.message_rules.specs.Layout.{directionOf, bytesOf, rule, rowOf}
+use Rattle.message_rules.specs.Layout.{directionOf, rule, rowOf}
 use Rattle.message_rules.specs.Body.{Body, byRow, decodeBody, split, lengthAllowed}
 use Rattle.message_rules.specs.Frame.{plain, frame, agrees, frameAnswer, bodyLength, bodyOf, messageIn}
 use Rattle.message_rules.specs.Message.{Reading, asMessage, requests, replies, bodyRead, decode, null, toHost}
@@ -69,7 +66,7 @@ module _ {M : Type 0} (t : Reading M) (law : Lawful t) where
 
       go : (r : Row) → rowOf d k ≡ r → Judged (andThen (byRow r f) (asMessage t)) (unless (known r) 6 (unless (fitsRow r f) 7 0))
       go Unknown p = (refl, omega arith, omega arith)
-      go (Known c l) p = allowed c l (sym (found d k c l p .way) ∙ e) (lengthAllowed l (length f) && rule c (take (bytesOf l) f))
+      go (Known c l) p = allowed c l (sym (found d k c l p .way) ∙ e) (lengthAllowed l (length f) && rule c (take (l .bytes) f))
 
   judged : (a : Address) (s : List ℕ) → Judged (decode t a s) (inOrder (t .direction) a s)
   unfolding decode bodyRead frameAnswer

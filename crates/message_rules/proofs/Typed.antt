@@ -9,14 +9,14 @@ use lib.ListN.{length, getD, take, drop}
 use lib.Seq.{drop-cons, take-all}
 use Rattle.message_rules.specs.declared.Direction.{Direction}
 use Rattle.message_rules.specs.declared.Direction.the-variants as way
-use Rattle.message_rules.specs.declared.Kind.{Kind}
-use Rattle.message_rules.specs.declared.Kind.the-variants as kind
+use Rattle.message_rules.specs.Row.{Kind}
+use Rattle.message_rules.specs.Row as kind
 use Rattle.message_rules.specs.declared.RequestKind.{RequestKind}
 use Rattle.message_rules.specs.declared.RequestKind.the-variants.{Get, Set, Timing, Save, Text, TableRead, TableWrite}
 use Rattle.message_rules.specs.declared.ReplyKind.{ReplyKind}
 use Rattle.message_rules.specs.declared.ReplyKind.the-variants.{Value, TimingReply, TextFragment, TableFragment}
 use Rattle.message_rules.specs.Read.{Read, ok, refused}
-use Rattle.message_rules.specs.Layout.{directionOf, layoutOf, bytesOf, wordsOf, mostOf}
+use Rattle.message_rules.specs.Layout.{directionOf, layoutOf}
 use Rattle.message_rules.specs.Body.{Body, ValidBody}
 use Rattle.message_rules.specs.Message.{Request, get, set, timing, save, text, tableRead, tableWrite, Reply, value, timingReply, textFragment, tableFragment, requestOf, replyOf, requestAs, replyAs, Reading, asMessage, requests, replies}
 
@@ -47,11 +47,11 @@ data-all zero (x ∷ l) h = absurd (omega arith)
 data-all (suc n) l h = refl
 
 abbrev pub placed : Kind → List ℕ → List ℕ → List ℕ → Body
-placed c b w r = record { kind = c; bytes = slots 0 (bytesOf (layoutOf c)) b; words = slots 0 (wordsOf (layoutOf c)) w; rest = dataIn (mostOf (layoutOf c)) r }
+placed c b w r = record { kind = c; bytes = slots 0 (layoutOf c .bytes) b; words = slots 0 (layoutOf c .words) w; rest = dataIn (layoutOf c .most) r }
 
 pub placed-is : (b : Body) → ValidBody b → placed (b .kind) (b .bytes) (b .words) (b .rest) ≡ b
 placed-is b v =
-    ap₂ (λ (x y : List ℕ). record { kind = b .kind; bytes = x; words = y; rest = dataIn (mostOf (layoutOf (b .kind))) (b .rest) })
+    ap₂ (λ (x y : List ℕ). record { kind = b .kind; bytes = x; words = y; rest = dataIn (layoutOf (b .kind) .most) (b .rest) })
     (slots-all _ (b .bytes) (v .bytesCount)) (slots-all _ (b .words) (v .wordsCount))
     ∙ ap (λ (x : List ℕ). record { kind = b .kind; bytes = b .bytes; words = b .words; rest = x }) (data-all _ (b .rest) (v .restCount))
 

@@ -8,13 +8,10 @@ use lib.Dec.{leb}
 use Rattle.checksum.specs.Bytes.{Bytes}
 use Rattle.message_rules.specs.Answer.{unknownCommand, wrongField, nullMessage}
 use Rattle.message_rules.specs.Read.{Read, ok, refused, require}
-use Rattle.message_rules.specs.Layout.{entry, layoutOf, bytesOf, wordsOf, mostOf, least, rule, rowOf}
+use Rattle.message_rules.specs.Layout.{entry, layoutOf, least, rule, rowOf}
 use Rattle.message_rules.specs.declared.Direction.{Direction}
 use Rattle.message_rules.specs.declared.Direction.the-variants.{Request, Reply}
-use Rattle.message_rules.specs.declared.Kind.{Kind}
-use Rattle.message_rules.specs.declared.Layout.{Layout}
-use Rattle.message_rules.specs.declared.Row.{Row}
-use Rattle.message_rules.specs.declared.Row.the-variants.{Known, Unknown}
+use Rattle.message_rules.specs.Row.{Layout, Kind, Row, Known, Unknown}
 
 pub record Body : Type 0 where
   pub kind : Kind
@@ -51,16 +48,16 @@ wordsIn (suc n) f = word f 0 ∷ wordsIn n (drop 2 f)
 
 -- the fields of a body of this layout
 abbrev pub split : Kind → Layout → List ℕ → Body
-split c l f = record { kind = c; bytes = take (bytesOf l) f; words = wordsIn (wordsOf l) (drop (bytesOf l) f); rest = drop (least l) f }
+split c l f = record { kind = c; bytes = take (l .bytes) f; words = wordsIn (l .words) (drop (l .bytes) f); rest = drop (least l) f }
 
 -- the layout takes n bytes behind the command number
 abbrev pub lengthAllowed : Layout → ℕ → Bool
-lengthAllowed l n = leb (least l) n && leb n (least l + mostOf l)
+lengthAllowed l n = leb (least l) n && leb n (least l + l .most)
 
 -- 6: "command not in the table"; 7: "n or a field wrong for the command"
 unfoldable pub byRow : Row → List ℕ → Read Body
 byRow Unknown f = refused unknownCommand
-byRow (Known c l) f = require (lengthAllowed l (length f) && rule c (take (bytesOf l) f)) wrongField (ok (split c l f))
+byRow (Known c l) f = require (lengthAllowed l (length f) && rule c (take (l .bytes) f)) wrongField (ok (split c l f))
 
 -- 6: "n = 0 to the board"; 12: "null message read by the post"
 abbrev pub emptyAnswer : Direction → ℕ
@@ -81,9 +78,9 @@ pub data Words : List ℕ → Type 0 where
 
 -- a body has the fields that its row of the table gives it
 pub record ValidBody (b : Body) : Type 0 where
-  pub bytesCount : length (b .bytes) ≡ bytesOf (layoutOf (b .kind))
-  pub wordsCount : length (b .words) ≡ wordsOf (layoutOf (b .kind))
-  pub restCount : length (b .rest) ≤ mostOf (layoutOf (b .kind))
+  pub bytesCount : length (b .bytes) ≡ layoutOf (b .kind) .bytes
+  pub wordsCount : length (b .words) ≡ layoutOf (b .kind) .words
+  pub restCount : length (b .rest) ≤ layoutOf (b .kind) .most
   pub bytesFit : Bytes (b .bytes)
   pub wordsFit : Words (b .words)
   pub restFit : Bytes (b .rest)

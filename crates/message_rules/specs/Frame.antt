@@ -11,11 +11,10 @@ use Rattle.message_rules.specs.Read.{unless}
 use Rattle.message_rules.specs.declared.Address.{Address}
 use Rattle.message_rules.specs.declared.Direction.{Direction}
 use Rattle.message_rules.specs.declared.Direction.the-variants.{Request, Reply}
-use Rattle.message_rules.specs.declared.Row.{Row}
-use Rattle.message_rules.specs.declared.Row.the-variants.{Known, Unknown}
+use Rattle.message_rules.specs.Row.{Row, Known, Unknown}
 
 abbrev pub plainRow : Row → Bool
-plainRow (Known c l) = l .3
+plainRow (Known c l) = l .plain
 plainRow Unknown = false
 
 -- "save that a reply whose first body byte is 4E has plain n"

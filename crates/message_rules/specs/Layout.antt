@@ -7,22 +7,19 @@ use lib.Dec.{eqb, ltb}
 use Rattle.message_rules.specs.Limits.{longestRequest, longestReply, mostWritten, mostFragment}
 use Rattle.message_rules.specs.declared.Direction.{Direction}
 use Rattle.message_rules.specs.declared.Direction.the-variants as way
-use Rattle.message_rules.specs.declared.Kind.{Kind}
-use Rattle.message_rules.specs.declared.Kind.the-variants as kind
+use Rattle.message_rules.specs.Row.{Layout, Kind, Row, Known, Unknown}
+use Rattle.message_rules.specs.Row as kind
 use Rattle.message_rules.specs.declared.RequestKind.{RequestKind}
 use Rattle.message_rules.specs.declared.RequestKind.the-variants.{Get, Set, Timing, Save, Text, TableRead, TableWrite}
 use Rattle.message_rules.specs.declared.ReplyKind.{ReplyKind}
 use Rattle.message_rules.specs.declared.ReplyKind.the-variants.{Value, TimingReply, TextFragment, TableFragment}
-use Rattle.message_rules.specs.declared.Layout.{Layout}
-use Rattle.message_rules.specs.declared.Row.{Row}
-use Rattle.message_rules.specs.declared.Row.the-variants.{Known, Unknown}
 
 pub record Entry : Type 0 where
   pub number : ℕ
   pub layout : Layout
 
 abbrev row : ℕ → ℕ → ℕ → ℕ → Bool → Entry
-row k bytes words most plain = record { number = k; layout = record { 0 = bytes; 1 = words; 2 = most; 3 = plain } }
+row k bytes words most plain = record { number = k; layout = record { bytes = bytes; words = words; most = most; plain = plain } }
 
 -- ---- the table: command number, single bytes, 16-bit words (H L), most data, plain length byte
 
@@ -79,18 +76,9 @@ rule (kind.Reply c) bytes = replyRule c bytes
 abbrev pub layoutOf : Kind → Layout
 layoutOf c = entry c .layout
 
-abbrev pub bytesOf : Layout → ℕ
-bytesOf l = l .0
-
-abbrev pub wordsOf : Layout → ℕ
-wordsOf l = l .1
-
-abbrev pub mostOf : Layout → ℕ
-mostOf l = l .2
-
 -- the bytes of a body behind its command number, the data aside
 abbrev pub least : Layout → ℕ
-least l = bytesOf l + 2 * wordsOf l
+least l = l .bytes + 2 * l .words
 
 abbrev pub rowIn : {C : Type 0} → (C → Kind) → List C → ℕ → Row
 rowIn make [] k = Unknown

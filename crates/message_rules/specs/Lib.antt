@@ -1,6 +1,7 @@
 pub mod Answer
 pub mod Limits
 pub mod Read
+pub mod Row
 pub mod Layout
 pub mod Body
 pub mod Frame

@@ -9,8 +9,8 @@ use Rattle.message_rules.specs.Frame.{frame, frameAnswer, bodyOf}
 use Rattle.message_rules.specs.declared.Address.{Address}
 use Rattle.message_rules.specs.declared.Direction.{Direction}
 use Rattle.message_rules.specs.declared.Direction.the-variants as way
-use Rattle.message_rules.specs.declared.Kind.{Kind}
-use Rattle.message_rules.specs.declared.Kind.the-variants as kind
+use Rattle.message_rules.specs.Row.{Kind}
+use Rattle.message_rules.specs.Row as kind
 use Rattle.message_rules.specs.declared.RequestKind.{RequestKind}
 use Rattle.message_rules.specs.declared.RequestKind.the-variants.{Get, Set, Timing, Save, Text, TableRead, TableWrite}
 use Rattle.message_rules.specs.declared.ReplyKind.{ReplyKind}

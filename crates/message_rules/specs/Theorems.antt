@@ -9,15 +9,14 @@ use Rattle.checksum.specs.Bytes.{Bytes}
 use Rattle.checksum.specs.Xor.{xorAll}
 use Rattle.message_rules.specs.Answer.{done, tooShort, wrongFirstByte, wrongLength, wrongChecksum, nullMessage, unknownCommand, wrongField}
 use Rattle.message_rules.specs.Read.{Read, ok, refused, answerOf, unless}
-use Rattle.message_rules.specs.Layout.{bytesOf, rule, rowOf}
+use Rattle.message_rules.specs.Layout.{rule, rowOf}
 use Rattle.message_rules.specs.Body.{lengthAllowed}
 use Rattle.message_rules.specs.Frame.{agrees, bodyLength, bodyOf, messageIn}
 use Rattle.message_rules.specs.Message.{Reading, Valid, encode, decode, replies, null, toHost}
 use Rattle.message_rules.specs.declared.Address.{Address}
 use Rattle.message_rules.specs.declared.Direction.{Direction}
 use Rattle.message_rules.specs.declared.Direction.the-variants as way
-use Rattle.message_rules.specs.declared.Row.{Row}
-use Rattle.message_rules.specs.declared.Row.the-variants.{Known, Unknown}
+use Rattle.message_rules.specs.Row.{Row, Known, Unknown}
 
 -- ---- demand 2: reading what was built, building what was read
 
@@ -56,7 +55,7 @@ commandKnown d [] = false
 commandKnown d (k ∷ f) = known (rowOf d k)
 
 abbrev pub fitsRow : Row → List ℕ → Bool
-fitsRow (Known c l) f = lengthAllowed l (length f) && rule c (take (bytesOf l) f)
+fitsRow (Known c l) f = lengthAllowed l (length f) && rule c (take (l .bytes) f)
 fitsRow Unknown f = true
 
 -- n and the fields are right for the command

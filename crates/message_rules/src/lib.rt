@@ -37,17 +37,3 @@ pub enum ReplyKind {
     TextFragment,
     TableFragment,
 }
-
-pub enum Kind {
-    Request(RequestKind),
-    Reply(ReplyKind),
-}
-
-// What stands behind the command number, in this order: so many single bytes, so many 16-bit words, at most so much data; then whether the length byte is plain.
-pub struct Layout(pub usize, pub usize, pub usize, pub bool);
-
-// What the table says of a command number.
-pub enum Row {
-    Known(Kind, Layout),
-    Unknown,
-}

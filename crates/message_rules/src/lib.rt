@@ -14,6 +14,17 @@ pub struct Address {
     pub seed: u8,
 }
 
+// The display's pair, towards it and back to the host.
+pub const TO_DISPLAY: Address = Address {
+    first: 0x51,
+    seed: 0x6E,
+};
+
+pub const TO_HOST: Address = Address {
+    first: 0x6E,
+    seed: 0x50,
+};
+
 // A text offset counts bytes of a whole text. No function takes it for a position.
 pub struct TextOffset(pub u16);
 

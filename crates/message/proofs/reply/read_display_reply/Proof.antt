@@ -1,0 +1,32 @@
+-- `message::reply::read_display_reply` meets its contract: what begins with the fixed string is the null message.
+-- Assumes nothing.
+use mathlib.Core.Path.{sym, _∙_}
+use Rattle.message.proofs.Starts.{null-answer}
+use borrow.Author.Needs.{needs}
+use Rattle.message.proofs.reply.read_display_reply.Statement.{statement}
+use Rattle.message.proofs.reply.read_display_reply.Tie as tie
+
+slice-aggregate-starts-with : tie.Need-slice-aggregate-starts-with
+slice-aggregate-starts-with c = search needs
+
+starts-with-requires : tie.Need-starts-with-requires
+starts-with-requires c κs = search needs
+
+returns : tie.Need-returns
+returns c = record { means = sym (null-answer (c .before .before .before .before .args .s .now) (sym (c .before .starts-with .ensures) ∙ c .if1 .taken)); inside = tt }
+
+read-reply-requires : tie.Need-read-reply-requires
+read-reply-requires c κs = search needs
+
+returns-2 : tie.Need-returns-2
+returns-2 c = search needs
+
+pub read-display-reply-spec : {M : Type 1} → statement M
+read-display-reply-spec =
+    tie.close
+    (tie.spec
+    slice-aggregate-starts-with
+    starts-with-requires
+    returns
+    read-reply-requires
+    returns-2)

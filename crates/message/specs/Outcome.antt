@@ -1,0 +1,63 @@
+-- What the readers' results say of the slice that was read.
+use Prim.Native.Nat.{ℕ, _+_, _≤_}
+use mathlib.Core.Path.{_≡_}
+use mathlib.Core.List.{List}
+use lib.ListN.{length, take, drop}
+use Rattle.message_rules.specs.Read.{Read, ok, refused}
+use Rattle.message_rules.specs.Message.{Request, get, set, timing, save, text, tableRead, tableWrite, Reply, value, timingReply, textFragment, tableFragment}
+use Rattle.message_rules.specs.declared.Position.{Position}
+use Rattle.message.specs.declared.RequestRead.{RequestRead}
+use Rattle.message.specs.declared.RequestRead.the-variants as requestRead
+use Rattle.message.specs.declared.ReplyRead.{ReplyRead}
+use Rattle.message.specs.declared.ReplyRead.the-variants as replyRead
+
+-- the n bytes from a position of the slice on
+abbrev pub partOf : List ℕ → Position → ℕ → List ℕ
+partOf s at n = take n (drop (at .0) s)
+
+-- the message, or the number of the refusal, that a result stands for
+abbrev pub requestIn : List ℕ → RequestRead → Read Request
+requestIn s (requestRead.Get c) = ok (get c)
+requestIn s (requestRead.Set c v) = ok (set c v)
+requestIn s requestRead.Timing = ok timing
+requestIn s requestRead.Save = ok save
+requestIn s (requestRead.Text o) = ok (text (o .0))
+requestIn s (requestRead.TableRead c o) = ok (tableRead c (o .0))
+requestIn s (requestRead.TableWrite c o at n) = ok (tableWrite c (o .0) (partOf s at n))
+requestIn s (requestRead.Refused k) = refused k
+
+abbrev pub replyIn : List ℕ → ReplyRead → Read Reply
+replyIn s (replyRead.Value r c t m p) = ok (value r c t m p)
+replyIn s (replyRead.Timing st h v) = ok (timingReply st h v)
+replyIn s (replyRead.TextFragment o at n) = ok (textFragment (o .0) (partOf s at n))
+replyIn s (replyRead.TableFragment o at n) = ok (tableFragment (o .0) (partOf s at n))
+replyIn s (replyRead.Refused k) = refused k
+
+-- the data that a result names lie in the slice
+abbrev pub RequestInside : List ℕ → RequestRead → Type 0
+RequestInside s (requestRead.Get c) = Unit {0}
+RequestInside s (requestRead.Set c v) = Unit {0}
+RequestInside s requestRead.Timing = Unit {0}
+RequestInside s requestRead.Save = Unit {0}
+RequestInside s (requestRead.Text o) = Unit {0}
+RequestInside s (requestRead.TableRead c o) = Unit {0}
+RequestInside s (requestRead.TableWrite c o at n) = at .0 + n ≤ length s
+RequestInside s (requestRead.Refused k) = Unit {0}
+
+abbrev pub ReplyInside : List ℕ → ReplyRead → Type 0
+ReplyInside s (replyRead.Value r c t m p) = Unit {0}
+ReplyInside s (replyRead.Timing st h v) = Unit {0}
+ReplyInside s (replyRead.TextFragment o at n) = at .0 + n ≤ length s
+ReplyInside s (replyRead.TableFragment o at n) = at .0 + n ≤ length s
+ReplyInside s (replyRead.Refused k) = Unit {0}
+
+-- a reader's result r stands for x, and what it names of the slice is in it
+pub record Meaning {M R : Type 0} (of : List ℕ → R → Read M) (In : List ℕ → R → Type 0) (s : List ℕ) (r : R) (x : Read M) : Type 0 where
+  pub means : of s r ≡ x
+  pub inside : In s r
+
+abbrev pub RequestMeans : List ℕ → RequestRead → Read Request → Type 0
+RequestMeans = Meaning requestIn RequestInside
+
+abbrev pub ReplyMeans : List ℕ → ReplyRead → Read Reply → Type 0
+ReplyMeans = Meaning replyIn ReplyInside

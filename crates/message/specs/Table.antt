@@ -1,0 +1,23 @@
+-- The rows of the table as the code has them: a kind, and the shape of the bytes behind the command number.
+use Prim.Native.Nat.{ℕ}
+use Rattle.message_rules.specs.Row.{Kind, Layout, Row, Known, Unknown}
+use Rattle.message_rules.specs.Row as kind
+use Rattle.message_rules.specs.Layout.{least}
+use Rattle.message.specs.declared.table.Shape.{Shape}
+use Rattle.message.specs.declared.table.RequestRow.{RequestRow}
+use Rattle.message.specs.declared.table.RequestRow.the-variants as request
+use Rattle.message.specs.declared.table.ReplyRow.{ReplyRow}
+use Rattle.message.specs.declared.table.ReplyRow.the-variants as reply
+
+abbrev pub shapeOf : Layout → Shape
+shapeOf l = record { 0 = least l; 1 = l .most; 2 = l .plain }
+
+abbrev pub requestRow : Row → RequestRow
+requestRow (Known (kind.Request c) l) = request.Known c (shapeOf l)
+requestRow (Known (kind.Reply c) l) = request.Unknown
+requestRow Unknown = request.Unknown
+
+abbrev pub replyRow : Row → ReplyRow
+replyRow (Known (kind.Request c) l) = reply.Unknown
+replyRow (Known (kind.Reply c) l) = reply.Known c (shapeOf l)
+replyRow Unknown = reply.Unknown

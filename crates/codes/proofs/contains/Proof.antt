@@ -1,0 +1,28 @@
+-- `contains` reads the bit of its code.
+use borrow.Author.Needs.{needs}
+use Rattle.codes.specs.Codes.{bit, member}
+use Rattle.codes.proofs.contains.Statement.{statement}
+use Rattle.codes.proofs.contains.Tie as tie
+
+cast-i : tie.Need-cast-i
+cast-i c = search needs
+
+mul-result : tie.Need-mul-result
+mul-result c = search needs
+
+array-read-result : tie.Need-array-read-result
+array-read-result c = search needs
+
+cast-result : tie.Need-cast-result
+cast-result c = search needs
+
+shr-result : tie.Need-shr-result
+shr-result c = search needs
+
+returns : tie.Need-returns
+unfolding member bit
+returns c = search needs
+
+pub contains-spec : {M : Type 1} → statement M
+contains-spec =
+    tie.close (tie.spec cast-i mul-result array-read-result cast-result shr-result returns)

@@ -1,0 +1,13 @@
+-- The worked examples hold: antt computes both directions of each.
+-- Assumes nothing.
+use mathlib.Core.Path.{refl}
+use Rattle.checksum.specs.Xor.{xorAll}
+use Rattle.message_rules.specs.Body.{byRow, decodeBody}
+use Rattle.message_rules.specs.Frame.{plain, frame, agrees, frameAnswer}
+use Rattle.message_rules.specs.Message.{bodyRead, decode}
+use Rattle.examples.specs.Examples.{All, examples}
+
+pub examples-hold : All examples
+unfolding xorAll byRow decodeBody plain frame agrees frameAnswer bodyRead decode
+examples-hold =
+    ((refl, refl), ((refl, refl), ((refl, refl), ((refl, refl), ((refl, refl), ((refl, refl), ((refl, refl), ((refl, refl), tt))))))))

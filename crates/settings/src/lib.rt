@@ -1,0 +1,276 @@
+// The values of one device by its VCP codes, with its timing: what declaring, Get, Set and Save do with them.
+//
+// Four yes-or-no properties of each code are code sets, as the set of declared codes is: the state is a third smaller than with an array of
+// flags for each, one proved test reads all five, and codes with several properties are found by whole words.
+use message_rules::answer::CODE_NOT_ALLOWED;
+use message_rules::answer::DONE;
+use message_rules::answer::NOT_DECLARABLE;
+use message_rules::answer::VALUE_TOO_LARGE;
+ghost use mathlib.Core.Path.{_≡_};
+ghost use Rattle.settings.specs.Settings.{emptySettings, startingSettings, startWith, exceedsMaximum, accessRefused, declarationRefused, withDeclaration, declareCode, answerToSet, setCode, saveAll, typeNumber, getCode};
+
+// The code of the table, which is no setting.
+pub const TABLE_CODE: u8 = 0xf4;
+
+// The type of a momentary code; a kept one is 0.
+pub const MOMENTARY: u8 = 1;
+
+// The fields of a Timing reply.
+pub struct Timing {
+    pub status: u8,
+    pub horizontal: u16,
+    pub vertical: u16,
+}
+
+// What a device keeps for each code 0 to 255, and its timing.
+pub struct Settings {
+    pub declared: [u64; 4],
+    pub readable: [u64; 4],
+    pub writable: [u64; 4],
+    pub momentary: [u64; 4],
+    pub continuous: [u64; 4],
+    pub maximum: [u16; 256],
+    pub present: [u16; 256],
+    pub saved: [u16; 256],
+    pub timing: Timing,
+}
+
+// What is said of a code when it is declared. The kind is the type: 0 (kept) or 1 (momentary).
+pub struct Declaration {
+    pub code: u8,
+    pub readable: bool,
+    pub writable: bool,
+    pub kind: u8,
+    pub continuous: bool,
+    pub maximum: u16,
+    pub present: u16,
+}
+
+// An answer number, with the settings afterwards. The settings stand first, at the start of the struct, where they are cheaper to copy.
+pub struct Change {
+    pub settings: Settings,
+    pub answer: u8,
+}
+
+// The fields of a Value reply. The kind is its type byte.
+pub struct Feature {
+    pub result: u8,
+    pub code: u8,
+    pub kind: u8,
+    pub maximum: u16,
+    pub present: u16,
+}
+
+// No code is declared, and the timing is the one given.
+fn starting(timing: Timing) -> Settings
+    ensures { λ r. ⌜ r ≡ startingSettings timing ⌝ }
+{
+    Settings {
+        declared: [0u64; 4],
+        readable: [0u64; 4],
+        writable: [0u64; 4],
+        momentary: [0u64; 4],
+        continuous: [0u64; 4],
+        maximum: [0u16; 256],
+        present: [0u16; 256],
+        saved: [0u16; 256],
+        timing: timing,
+    }
+}
+
+// The settings that a refused start leaves: no code, and timing 0.
+pub fn empty() -> Settings
+    ensures { λ r. ⌜ r ≡ emptySettings ⌝ }
+{
+    starting(Timing {
+        status: 0,
+        horizontal: 0,
+        vertical: 0,
+    })
+}
+
+// Settings with a timing and no code yet; 18 and the empty settings where a reserved bit of the status is set.
+pub fn start(timing: Timing) -> Change
+    ensures { λ r. ⌜ r ≡ startWith timing ⌝ }
+{
+    let reserved = timing.status / 4 % 16;
+    if reserved == 0 {
+        let settings = starting(timing);
+        return Change {
+            answer: DONE,
+            settings: settings,
+        };
+    }
+    let settings = empty();
+    Change {
+        answer: NOT_DECLARABLE,
+        settings: settings,
+    }
+}
+
+// Whether the value is above the maximum of a continuous code. The maximum of another code is never judged.
+pub fn exceeds(continuous: bool, maximum: u16, value: u16) -> bool
+    ensures { λ r. ⌜ r ≡ exceedsMaximum continuous maximum value ⌝ }
+{
+    if continuous { maximum < value } else { false }
+}
+
+// Whether a code of this access and type may not be declared.
+fn access_refused(readable: bool, writable: bool, momentary: bool) -> bool
+    ensures { λ r. ⌜ r ≡ accessRefused readable writable momentary ⌝ }
+{
+    if writable {
+        return false;
+    }
+    if readable {
+        return momentary;
+    }
+    true
+}
+
+// Whether declaring is refused, of a code that is declared already or not.
+fn declaration_refused(declared: bool, d: Declaration) -> bool
+    ensures { λ r. ⌜ r ≡ declarationRefused declared d ⌝ }
+{
+    if d.code == TABLE_CODE {
+        return true;
+    }
+    if declared {
+        return true;
+    }
+    if MOMENTARY < d.kind {
+        return true;
+    }
+    if access_refused(d.readable, d.writable, d.kind == MOMENTARY) {
+        return true;
+    }
+    exceeds(d.continuous, d.maximum, d.present)
+}
+
+// The settings with the code as it is declared.
+fn with_declaration(mut s: Settings, d: Declaration) -> Settings
+    ensures { λ r. ⌜ r ≡ withDeclaration s d ⌝ }
+{
+    let i = d.code as usize;
+    s.declared = codes::insert(s.declared, d.code);
+    s.readable = codes::assign(s.readable, d.code, d.readable);
+    s.writable = codes::assign(s.writable, d.code, d.writable);
+    s.momentary = codes::assign(s.momentary, d.code, d.kind == MOMENTARY);
+    s.continuous = codes::assign(s.continuous, d.code, d.continuous);
+    s.maximum[i] = d.maximum;
+    s.present[i] = d.present;
+    s.saved[i] = d.present;
+    s
+}
+
+// The settings with the code declared, or 18 and the same settings.
+pub fn declare(s: Settings, d: Declaration) -> Change
+    ensures { λ r. ⌜ r ≡ declareCode s d ⌝ }
+{
+    let words = s.declared;
+    if declaration_refused(codes::contains(words, d.code), d) {
+        return Change {
+            answer: NOT_DECLARABLE,
+            settings: s,
+        };
+    }
+    let settings = with_declaration(s, d);
+    Change {
+        answer: DONE,
+        settings: settings,
+    }
+}
+
+// The answer to a Set, from what is kept of its code and whether the value is above the maximum.
+fn set_answer(declared: bool, code: u8, writable: bool, above: bool) -> u8
+    ensures { λ r. ⌜ r ≡ answerToSet declared code writable above ⌝ }
+{
+    if declared {
+        if code == TABLE_CODE {
+            return CODE_NOT_ALLOWED;
+        }
+        if writable {
+            if above {
+                return VALUE_TOO_LARGE;
+            }
+            return DONE;
+        }
+    }
+    CODE_NOT_ALLOWED
+}
+
+// A Set of the code to the value. The value is stored into the parameter itself, not into another local.
+pub fn set(mut s: Settings, code: u8, value: u16) -> Change
+    ensures { λ r. ⌜ r ≡ setCode s code value ⌝ }
+{
+    let i = code as usize;
+    let declared = codes::contains(s.declared, code);
+    let writable = codes::contains(s.writable, code);
+    let continuous = codes::contains(s.continuous, code);
+    let above = exceeds(continuous, s.maximum[i], value);
+    let answer = set_answer(declared, code, writable, above);
+    if answer != DONE {
+        return Change {
+            answer: answer,
+            settings: s,
+        };
+    }
+    if codes::contains(s.momentary, code) {
+        return Change {
+            answer: answer,
+            settings: s,
+        };
+    }
+    s.present[i] = value;
+    Change {
+        answer: answer,
+        settings: s,
+    }
+}
+
+// A Save: every saved value is the present one.
+pub fn save(mut s: Settings) -> Settings
+    ensures { λ r. ⌜ r ≡ saveAll s ⌝ }
+{
+    let values = s.present;
+    s.saved = values;
+    s
+}
+
+// The type byte of a Value reply.
+fn type_number(momentary: bool) -> u8
+    ensures { λ r. ⌜ r ≡ typeNumber momentary ⌝ }
+{
+    if momentary { MOMENTARY } else { 0 }
+}
+
+// A Get of the code. The two arrays are taken out only where they are shown, so that the settings are not copied whole.
+pub fn get(s: Settings, code: u8) -> Feature
+    ensures { λ r. ⌜ r ≡ getCode s code ⌝ }
+{
+    let i = code as usize;
+    let declared = s.declared;
+    if codes::contains(declared, code) {
+        let readable = s.readable;
+        if codes::contains(readable, code) {
+            let momentary = s.momentary;
+            let maximum = s.maximum;
+            let present = s.present;
+            let kind = type_number(codes::contains(momentary, code));
+            return Feature {
+                result: 0,
+                code: code,
+                kind: kind,
+                maximum: maximum[i],
+                present: present[i],
+            };
+        }
+    }
+    Feature {
+        result: 1,
+        code: code,
+        kind: 0,
+        maximum: 0,
+        present: 0,
+    }
+}

@@ -19,10 +19,18 @@ use Rattle.message.specs.declared.Built.the-variants.{Done, Refused}
 abbrev pub over : List ℕ → List ℕ → List ℕ
 over s out = s ++ drop (length s) out
 
--- 1 for an output that is too small, then 7 where the message is not allowed; a refusal leaves the output as it was
+-- 1 for an output that is too small, then 7 where the message is not allowed, else the message's length
+abbrev pub builtAnswer : Bool → List ℕ → List ℕ → Built
+builtAnswer allowed s before = cond (leb outputRoom (length before)) (cond allowed (Done (length s)) (Refused wrongField)) (Refused wrongSize)
+
+-- a refusal leaves the output as it was
+abbrev pub builtOutput : Bool → List ℕ → List ℕ → List ℕ
+builtOutput allowed s before = cond (leb outputRoom (length before)) (cond allowed (over s before) before) before
+
+-- what a builder of these bytes answers and leaves
 pub record Builds (allowed : Bool) (s before after : List ℕ) (r : Built) : Type 0 where
-  pub answers : r ≡ cond (leb outputRoom (length before)) (cond allowed (Done (length s)) (Refused wrongField)) (Refused wrongSize)
-  pub leaves : after ≡ cond (leb outputRoom (length before)) (cond allowed (over s before) before) before
+  pub answers : r ≡ builtAnswer allowed s before
+  pub leaves : after ≡ builtOutput allowed s before
 
 -- 7: "builder given such a field". What can be wrong with a body that has its row's fields
 abbrev pub admits : Body → Bool

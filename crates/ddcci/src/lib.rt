@@ -1,0 +1,30 @@
+// The library's functions for Rust and C: on numbers and slices alone, thin over the proved functions, refusing like them.
+pub mod reply;
+pub mod request;
+
+ghost use mathlib.Core.Path.{_≡_};
+ghost use Rattle.ddcci.specs.Numbers.{builtNumbers};
+use message::Built;
+use message_rules::answer;
+
+// What a builder answers: an answer number, and the length of the message or 0.
+#[repr(C)]
+pub struct BuiltNumbers {
+    pub answer: u8,
+    pub length: usize,
+}
+
+pub(crate) fn built_numbers(built: Built) -> BuiltNumbers
+    ensures { λ r. ⌜ r ≡ builtNumbers built ⌝ }
+{
+    match built {
+        Built::Done(length) => BuiltNumbers {
+            answer: answer::DONE,
+            length: length,
+        },
+        Built::Refused(k) => BuiltNumbers {
+            answer: k,
+            length: 0,
+        },
+    }
+}

@@ -1,0 +1,97 @@
+//! The refusals of document 01's table of answer numbers.
+use std::fmt;
+
+macro_rules! refusals {
+    ($($(#[$doc:meta])* $name:ident = $number:literal, $text:literal;)*) => {
+        /// Why a call was refused. Each refusal has the number of document 01's table, and leaves what that table says.
+        #[derive(Debug, Clone, Copy, PartialEq, Eq, Hash)]
+        #[repr(u8)]
+        pub enum Refusal {
+            $($(#[$doc])* $name = $number,)*
+        }
+
+        impl Refusal {
+            /// The refusal of an answer number; `None` for 0 (done) and for a number outside the table.
+            pub fn from_number(number: u8) -> Option<Refusal> {
+                match number {
+                    $($number => Some(Refusal::$name),)*
+                    _ => None,
+                }
+            }
+
+            fn text(self) -> &'static str {
+                match self {
+                    $(Refusal::$name => $text,)*
+                }
+            }
+        }
+    };
+}
+
+refusals! {
+    /// A lent buffer has the wrong size.
+    WrongSize = 1, "a lent buffer has the wrong size (an output needs 38 bytes)";
+    /// A message is under 3 bytes.
+    TooShort = 2, "the message is under 3 bytes";
+    /// The first byte of a message is wrong.
+    WrongFirstByte = 3, "the first byte is not the one of this direction";
+    /// The length byte is wrong, or the slice does not agree with it.
+    WrongLength = 4, "the length byte is wrong, or the slice does not agree with it";
+    /// The checksum is wrong.
+    WrongChecksum = 5, "the checksum is wrong: ask again";
+    /// The command is not in the table.
+    UnknownCommand = 6, "the command is not in the table";
+    /// The length or a field is wrong for the command.
+    WrongField = 7, "the length or a field is wrong for the command";
+    /// The code is not allowed.
+    CodeNotAllowed = 8, "the VCP code is not allowed";
+    /// A value is above the maximum.
+    ValueTooLarge = 9, "the value is above the maximum";
+    /// An offset or fragment is not the one wanted.
+    NotWanted = 10, "the offset or fragment is not the one wanted";
+    /// A text is too long for its room.
+    TextTooLong = 11, "the text is too long for its room";
+    /// The null message was read.
+    NullMessage = 12, "the display sent the null message: it is busy or does not know the command";
+    /// A capabilities string does not follow the grammar.
+    WrongGrammar = 13, "the capabilities string does not follow the grammar";
+    /// There is no room for a node.
+    NoNodeRoom = 14, "there is no room for another node";
+    /// Groups nest deeper than 8.
+    TooDeep = 15, "groups nest deeper than 8";
+    /// The transfer is closed.
+    TransferClosed = 16, "the transfer is closed: begin another";
+    /// A profile is broken.
+    BrokenProfile = 17, "the profile is broken";
+    /// A declaration, fragment size or budget is not allowed.
+    NotDeclarable = 18, "the declaration, fragment size or budget is not allowed";
+}
+
+impl Refusal {
+    /// The number in document 01's table.
+    pub fn number(self) -> u8 {
+        self as u8
+    }
+
+    /// `Ok` for answer 0, else the refusal.
+    #[inline]
+    pub(crate) fn check(number: u8) -> Result<(), Refusal> {
+        match number {
+            0 => Ok(()),
+            n => Err(Refusal::of(n)),
+        }
+    }
+
+    #[cold]
+    fn of(number: u8) -> Refusal {
+        Refusal::from_number(number).expect("the library answers by the table")
+    }
+}
+
+impl fmt::Display for Refusal {
+    fn fmt(&self, f: &mut fmt::Formatter<'_>) -> fmt::Result {
+        write!(f, "refused {}: {}", self.number(), self.text())
+    }
+}
+
+impl std::error::Error for Refusal {}

@@ -1,0 +1,43 @@
+//! What the tests share: how long they run, and one spelling of both implementations' messages.
+#![allow(dead_code)]
+use ddcci::{Refusal, Reply, Request};
+use oracle::message as slow;
+
+/// How many times a random test runs: `rounds(n)` is n, or n times the number in `PANEKNOLL_LONGER`.
+pub fn rounds(n: usize) -> usize {
+    let longer = std::env::var("PANEKNOLL_LONGER").ok().and_then(|s| s.parse().ok()).unwrap_or(1);
+    n * longer
+}
+
+pub fn request(r: Result<slow::Request<'_>, u8>) -> Result<Request<'_>, u8> {
+    Ok(match r? {
+        slow::Request::Get { code } => Request::Get { code },
+        slow::Request::Set { code, value } => Request::Set { code, value },
+        slow::Request::Timing => Request::Timing,
+        slow::Request::Save => Request::Save,
+        slow::Request::Capabilities { offset } => Request::Text { offset },
+        slow::Request::TableRead { code, offset } => Request::TableRead { code, offset },
+        slow::Request::TableWrite { code, offset, data } => Request::TableWrite { code, offset, data },
+    })
+}
+
+pub fn reply(r: Result<slow::Reply<'_>, u8>) -> Result<Reply<'_>, u8> {
+    Ok(match r? {
+        slow::Reply::Value { result, code, kind, maximum, present } => {
+            Reply::Value { result, code, kind, max: maximum, present }
+        }
+        slow::Reply::Timing { status, horizontal, vertical } => Reply::Timing { status, horizontal, vertical },
+        slow::Reply::Capabilities { offset, data } => Reply::TextFragment { offset, data },
+        slow::Reply::Table { offset, data } => Reply::TableFragment { offset, data },
+    })
+}
+
+pub fn number<T>(r: Result<T, Refusal>) -> Result<T, u8> {
+    r.map_err(Refusal::number)
+}
+
+/// Both implementations read the slice alike, as a request and as a reply.
+pub fn read_alike(s: &[u8]) {
+    assert_eq!(number(Request::read(s)), request(slow::read_request(s)), "request {s:02X?}");
+    assert_eq!(number(Reply::read(s)), reply(slow::read_reply(s)), "reply {s:02X?}");
+}

@@ -16,6 +16,10 @@ mostWritten = 31
 abbrev pub mostFragment : ℕ
 mostFragment = 32
 
+-- "The capability text is at most 4,096 bytes"; "room: the lesser of its length and 4,096"
+abbrev pub longestText : ℕ
+longestText = 4096
+
 -- "Every builder needs 38 bytes of output."
 abbrev pub outputRoom : ℕ
 outputRoom = 38

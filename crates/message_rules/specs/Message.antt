@@ -35,6 +35,10 @@ pub data Reply : Type 0 where
   textFragment : (offset : ℕ) → List ℕ → Reply
   tableFragment : (offset : ℕ) → List ℕ → Reply
 
+-- the VCP code of the table (the papers' call list): "8 unless F4"
+abbrev pub tableCode : ℕ
+tableCode = 0xF4
+
 -- ---- a message as a body, and a body as a message
 
 abbrev pub body : Kind → List ℕ → List ℕ → List ℕ → Body

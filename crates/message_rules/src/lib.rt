@@ -31,6 +31,15 @@ pub struct TextOffset(pub u16);
 // A position counts bytes of one slice: a message, a capabilities string, a profile (the papers' place). No function takes it for a text offset.
 pub struct Position(pub usize);
 
+// The two texts of a display that are sent in fragments: the capabilities string (the papers' capability text) and the table (their call list).
+pub enum TextKind {
+    Capabilities,
+    Table,
+}
+
+// The VCP code of the table.
+pub const TABLE_CODE: u8 = 0xF4;
+
 // The rows of document 01's table of messages, the null message aside.
 pub enum RequestKind {
     Get,

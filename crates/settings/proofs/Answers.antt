@@ -9,7 +9,8 @@ use lib.Dec.{eqb}
 use borrow.Author.Tests.{ltb-false, le-ltb}
 use Rattle.message_rules.specs.Answer.{done, codeNotAllowed, valueTooLarge}
 use Rattle.codes.specs.Codes.{member}
-use Rattle.settings.specs.Settings.{tableCode, momentaryType, exceedsMaximum, accessRefused, declarationRefused, declareCode, answerToSet, setAnswer}
+use Rattle.message_rules.specs.Message.{tableCode}
+use Rattle.settings.specs.Settings.{momentaryType, exceedsMaximum, accessRefused, declarationRefused, declareCode, answerToSet, setAnswer}
 use Rattle.settings.specs.declared.Settings.{Settings}
 use Rattle.settings.specs.declared.Declaration.{Declaration}
 

@@ -9,7 +9,8 @@ use borrow.Author.Tests.{eq-eqb, ne-eqb, eqb-true, eqb-false, le-ltb}
 use Rattle.message_rules.specs.Answer.{done}
 use Rattle.codes.specs.Codes.{allCodes, member, noCodes, countOf}
 use Rattle.codes.proofs.Theorems.{none-inside, counts-none, counts-inserted}
-use Rattle.settings.specs.Settings.{tableCode, momentaryType, typeNumber, reservedBits, startingSettings, startWith, declarationRefused, withDeclaration, declareCode, answerToSet, setAnswer, withPresent, setCode, saveAll, getCode}
+use Rattle.message_rules.specs.Message.{tableCode}
+use Rattle.settings.specs.Settings.{momentaryType, typeNumber, reservedBits, startingSettings, startWith, declarationRefused, withDeclaration, declareCode, answerToSet, setAnswer, withPresent, setCode, saveAll, getCode}
 use Rattle.settings.specs.Entries.{Entry, entryOf, entryDeclared, entryPresent, entrySaved, Within, Sound}
 use Rattle.settings.specs.Statements.{DeclareAccepts, SetAccepts, RefusedDeclareKeeps, RefusedSetKeeps, StartsWithNone, DeclaresOne, SetsOne, MomentarySetKeeps, SavesAll, GetsWhatWasSet, GetIsSendable, CountsTheDeclared, StartsAtNought, DeclaringCountsOne, StartIsSound, EmptyIsSound, DeclareKeepsSound, SetKeepsSound, SaveKeepsSound}
 use Rattle.settings.specs.declared.Timing.{Timing}

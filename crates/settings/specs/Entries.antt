@@ -5,7 +5,8 @@ use mathlib.Core.Bool.{Bool, true, false}
 use lib.ListN.{getD, length}
 use lib.Dec.{eqb}
 use Rattle.codes.specs.Codes.{allCodes, member}
-use Rattle.settings.specs.Settings.{tableCode, momentaryType, reservedBits}
+use Rattle.message_rules.specs.Message.{tableCode}
+use Rattle.settings.specs.Settings.{momentaryType, reservedBits}
 use Rattle.settings.specs.declared.Settings.{Settings}
 use Rattle.settings.specs.declared.Declaration.{Declaration}
 

@@ -3,6 +3,7 @@ use Prim.Native.Nat.{ℕ, _/_, _%_}
 use mathlib.Core.Bool.{Bool, cond, not, _&&_, _||_}
 use lib.ListN.{getD, set, replicate}
 use lib.Dec.{eqb, ltb}
+use Rattle.message_rules.specs.Message.{tableCode}
 use Rattle.message_rules.specs.Answer.{done, codeNotAllowed, valueTooLarge, notDeclarable}
 use Rattle.codes.specs.Codes.{allCodes, member, noCodes, inserted, assigned}
 use Rattle.settings.specs.declared.Timing.{Timing}
@@ -10,10 +11,6 @@ use Rattle.settings.specs.declared.Settings.{Settings}
 use Rattle.settings.specs.declared.Declaration.{Declaration}
 use Rattle.settings.specs.declared.Change.{Change}
 use Rattle.settings.specs.declared.Feature.{Feature}
-
--- "For each code 0 to 255 except F4": the code of the table (the paper's call list)
-abbrev pub tableCode : ℕ
-tableCode = 0xF4
 
 -- "type (0 kept, 1 momentary)"
 abbrev pub momentaryType : ℕ
@@ -63,7 +60,7 @@ exceedsMaximum continuous maximum value = continuous && ltb maximum value
 abbrev pub accessRefused : (readable writable momentary : Bool) → Bool
 accessRefused readable writable momentary = (not writable && not readable) || (not writable && momentary)
 
--- "Declaring is refused (18) for F4, a code twice, a type above 1, neither readable nor writable, momentary and not writable, or continuous
+-- "For each code 0 to 255 except F4"; "Declaring is refused (18) for F4, a code twice, a type above 1, neither readable nor writable, momentary and not writable, or continuous
 -- with present above maximum."
 unfoldable pub declarationRefused : (declared : Bool) → Declaration → Bool
 declarationRefused declared d =

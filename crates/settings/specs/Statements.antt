@@ -6,7 +6,8 @@ use mathlib.Core.Logic.{_⊎_}
 use lib.Dec.{eqb}
 use Rattle.message_rules.specs.Answer.{done}
 use Rattle.codes.specs.Codes.{allCodes, howMany, countOf}
-use Rattle.settings.specs.Settings.{tableCode, momentaryType, startingSettings, emptySettings, startWith, declareCode, setCode, saveAll, getCode}
+use Rattle.message_rules.specs.Message.{tableCode}
+use Rattle.settings.specs.Settings.{momentaryType, startingSettings, emptySettings, startWith, declareCode, setCode, saveAll, getCode}
 use Rattle.settings.specs.Entries.{entryOf, entryDeclared, entryPresent, entrySaved, Sized, Sound}
 use Rattle.settings.specs.declared.Timing.{Timing}
 use Rattle.settings.specs.declared.Settings.{Settings}

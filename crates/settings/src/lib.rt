@@ -2,15 +2,13 @@
 //
 // Four yes-or-no properties of each code are code sets, as the set of declared codes is: the state is a third smaller than with an array of
 // flags for each, one proved test reads all five, and codes with several properties are found by whole words.
+use message_rules::TABLE_CODE;
 use message_rules::answer::CODE_NOT_ALLOWED;
 use message_rules::answer::DONE;
 use message_rules::answer::NOT_DECLARABLE;
 use message_rules::answer::VALUE_TOO_LARGE;
 ghost use mathlib.Core.Path.{_≡_};
 ghost use Rattle.settings.specs.Settings.{emptySettings, startingSettings, startWith, exceedsMaximum, accessRefused, declarationRefused, withDeclaration, declareCode, answerToSet, setCode, saveAll, typeNumber, getCode};
-
-// The code of the table, which is no setting.
-pub const TABLE_CODE: u8 = 0xf4;
 
 // The type of a momentary code; a kept one is 0.
 pub const MOMENTARY: u8 = 1;

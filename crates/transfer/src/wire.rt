@@ -1,0 +1,62 @@
+// The messages of a transfer, by the kind of its text.
+ghost use mathlib.Core.Path.{_≡_};
+ghost use mathlib.Core.Bool.{true};
+ghost use Rattle.message.specs.Output.{Builds};
+ghost use Rattle.transfer_rules.specs.Fragment.{requestMessage, readReply, fragmentOf};
+ghost use Rattle.transfer.specs.Found.{FragmentMeans, ofKind};
+use message::Built;
+use message::ReplyRead;
+use message::reply;
+use message::request;
+use message_rules::Position;
+use message_rules::TextKind;
+use message_rules::TextOffset;
+use message_rules::answer;
+
+// What reading a fragment of one kind comes to: its offset, where its data start in the slice, and how many they are.
+pub(crate) enum FragmentRead {
+    Found(TextOffset, Position, usize),
+    Refused(u8),
+}
+
+// Builds the request for the fragment at an offset.
+pub(crate) fn build(kind: TextKind, offset: TextOffset, output: &mut [u8]) -> Built
+    ensures { λ r. ⌜ Builds true (requestMessage kind (offset .0)) (now (output .entry)) (now (output .exit)) r ⌝ }
+{
+    match kind {
+        TextKind::Capabilities => request::build_text(message_rules::TO_DISPLAY, offset, output),
+        TextKind::Table => request::build_table_read(
+            message_rules::TO_DISPLAY,
+            message_rules::TABLE_CODE,
+            offset,
+            output,
+        ),
+    }
+}
+
+// A reply of another kind is not wanted.
+fn of_kind(kind: TextKind, found: ReplyRead) -> FragmentRead
+    ensures { λ r. ⌜ r ≡ ofKind kind found ⌝ }
+{
+    match found {
+        ReplyRead::Value(_, _, _, _, _) => FragmentRead::Refused(answer::NOT_WANTED),
+        ReplyRead::Timing(_, _, _) => FragmentRead::Refused(answer::NOT_WANTED),
+        ReplyRead::TextFragment(offset, at, len) => match kind {
+            TextKind::Capabilities => FragmentRead::Found(offset, at, len),
+            TextKind::Table => FragmentRead::Refused(answer::NOT_WANTED),
+        },
+        ReplyRead::TableFragment(offset, at, len) => match kind {
+            TextKind::Capabilities => FragmentRead::Refused(answer::NOT_WANTED),
+            TextKind::Table => FragmentRead::Found(offset, at, len),
+        },
+        ReplyRead::Refused(n) => FragmentRead::Refused(n),
+    }
+}
+
+// Reads the fragment of a kind in the bytes that came back.
+pub(crate) fn read_fragment(kind: TextKind, s: &[u8]) -> FragmentRead
+    ensures { λ r. ⌜ FragmentMeans (now (s .entry)) r (fragmentOf kind (readReply (now (s .entry)))) ⌝ }
+{
+    let found = reply::read_display_reply(s);
+    of_kind(kind, found)
+}

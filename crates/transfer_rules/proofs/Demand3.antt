@@ -1,0 +1,180 @@
+-- Demand 3 for the calls of Transfer.antt, by the invariant `Kept` over the list of exchanges; and which lists its suppositions leave out.
+-- Assumes nothing.
+use Prim.Native.Nat.{ℕ, suc, _+_, _≤_, _<_}
+use mathlib.Core.Path.{_≡_, refl, ap, ap₂, sym, _∙_, subst₂}
+use mathlib.Core.List.{List, [], _∷_, _++_}
+use mathlib.Core.Option.{some, none}
+use mathlib.Core.Bool.{Bool, true, false, cond, _&&_, true≢false}
+use native.Mathlib.Omega.{arith}
+use native.Mathlib.Nat.{zero-add}
+use lib.ListN.{length, take, drop}
+use lib.Seq.{take-length}
+use lib.Dec.{leb, eqb}
+use borrow.Author.Tests.{le-leb, eqb-true, eqb-false}
+use Rattle.checksum.specs.Bytes.{Bytes}
+use Rattle.message_rules.specs.Limits.{outputRoom}
+use Rattle.message_rules.specs.declared.TextKind.{TextKind}
+use Rattle.transfer_rules.specs.declared.State.{State}
+use Rattle.transfer_rules.specs.declared.State.the-variants.{Running, Done, Exhausted, Overflowed}
+use Rattle.message_rules.specs.Limits.{longestText}
+use Rattle.transfer_rules.specs.Limits.{mostBudget}
+use Rattle.transfer_rules.specs.Fragment.{requestMessage, readReply}
+use Rattle.transfer_rules.specs.Transfer.{isOpen}
+use Rattle.transfer_rules.specs.Conforming.{Cursor}
+use Rattle.transfer_rules.specs.Exchange.{rules, World, Exchange, Replied, Corrupted, ended, answered, corrupted, closed}
+use Rattle.transfer_rules.specs.Exchange as over
+use Rattle.transfer_rules.specs.Demand3.{enough, EndClaim, Demand3, Covers}
+use Rattle.transfer_rules.specs.Demand3 as claimed
+use Rattle.transfer_rules.proofs.Messages.{read-fragment, read-valid, read-begins}
+use Rattle.transfer_rules.proofs.Steps.{receive-closed, sent-is}
+use Rattle.transfer_rules.proofs.Kept.{after, Follows, StateKept, Kept, first-le, Judged, wanted, other, reply-read, answered-done, answered-kept, judged, refused-not-done, corrupted-kept, closed-kept}
+
+-- the calls of Transfer.antt
+abbrev start : TextKind → List ℕ → ℕ → Cursor → World
+start = over.start rules
+
+abbrev afterAll : World → List Exchange → World
+afterAll = over.afterAll rules
+
+abbrev Course : TextKind → List ℕ → World → List Exchange → ℕ → Type 0
+Course = over.Course rules
+
+abbrev Each : (World → Exchange → Type 0) → World → List Exchange → Type 0
+Each = over.Each rules
+
+abbrev ExchangeClaim : TextKind → World → Exchange → Type 0
+ExchangeClaim = claimed.ExchangeClaim rules
+
+abbrev Genuine : TextKind → List ℕ → World → Exchange → Type 0
+Genuine = claimed.Genuine rules
+
+module _ (k : TextKind) (text buffer : List ℕ) (budget : ℕ) (bytes : Bytes text) (small : length text ≤ longestText) (fits : length text ≤ length buffer) where
+  -- ---- the claim of each exchange
+  claim : (w : World) (e : Exchange) (m n : ℕ) → Kept k text buffer budget w m n → Follows k text w e → ExchangeClaim k w e
+  claim w e m n v f =
+      record {
+        requests = sent-is (w .transfer) (e .output)
+            ∙ ap₂ (λ (a : TextKind) (b : ℕ). cond (isOpen (w .transfer) && leb outputRoom (length (e .output))) (some (requestMessage a b)) none) (v .kindIs) (v .reachedIs);
+        answers = λ o r. answered-done k text buffer budget bytes small fits w e m n v o f r;
+        refuses = λ s z. refused-not-done k text buffer budget bytes small fits w e m n v f s z;
+        stays = λ c. receive-closed (w .transfer) (w .buffer) (e .came) c;
+      }
+
+  -- ---- the list
+  renumber : (w : World) (m m′ n n′ : ℕ) → m ≡ m′ → n ≡ n′ → Kept k text buffer budget w m n → Kept k text buffer budget w m′ n′
+  renumber w m m′ n n′ a b v = subst₂ (λ (x y : ℕ). Kept k text buffer budget w x y) a b v
+
+  all : (w : World) (es : List Exchange) (j : ℕ) → Course k text w es j → (m n : ℕ) → Kept k text buffer budget w m n →
+      Each (ExchangeClaim k) w es × Kept k text buffer budget (afterAll w es) (m + length es) (n + j)
+  all w es j ended m n v = (tt, renumber w _ _ _ _ (omega arith) (omega arith) v)
+  all w es j (answered {e = e} {es = rest} f o r c) m n v =
+      let z = all (after w e) rest j c (suc m) n (answered-kept k text buffer budget bytes small fits w e m n v o f r) in
+      ((claim w e m n v f, z .0), renumber _ _ _ _ _ (omega arith) refl (z .1))
+  all w es j (corrupted {e = e} {es = rest} {n = i} f s c) m n v =
+      let z = all (after w e) rest i c (suc m) (suc n) (corrupted-kept k text buffer budget bytes small fits w e m n v f s) in
+      ((claim w e m n v f, z .0), renumber _ _ _ _ _ (omega arith) (omega arith) (z .1))
+  all w es j (closed {e = e} {es = rest} f o c) m n v =
+      let z = all (after w e) rest j c (suc m) n (closed-kept k text buffer budget bytes small fits w e m n v o) in
+      ((claim w e m n v f, z .0), renumber _ _ _ _ _ (omega arith) refl (z .1))
+
+  -- ---- the end
+  end : (w : World) (m n : ℕ) → Kept k text buffer budget w m n → EndClaim text buffer budget w m n
+  end w m n v =
+      record {
+        first = v .first;
+        holds = v .holds;
+        reached = v .reachedIs;
+        count = v .countIs;
+        within = λ h. running-part (rw h at v .stateIs);
+        done = λ h. done-part (rw h at v .stateIs);
+        finished = λ l le₀ le₁ le₂. finish l le₀ le₁ le₂ (w .transfer .state) refl (v .stateIs);
+      }
+    where
+      running-part : StateKept (length text) budget (w .transfer .count) (w .transfer .reached .0) (w .cursor) m n Running → w .transfer .count < budget
+      running-part i = i .1
+
+      done-part : (w .transfer .reached .0 ≡ length text) × (w .transfer .count ≤ length text + 1 + n) →
+          (w .transfer .reached .0 ≡ length text) × (w .accepted ≡ text) × (w .buffer ≡ text ++ drop (length text) buffer)
+      done-part i =
+          let a : w .accepted ≡ text = v .first ∙ ap (λ (x : ℕ). take x text) (sym (v .reachedIs) ∙ i .0) ∙ take-length text in
+          (i .0, a, v .holds ∙ ap (λ (x : List ℕ). x ++ drop (length x) buffer) a)
+
+      finish : (l : ℕ) → n ≤ l → enough (length text) l ≤ m → enough (length text) l ≤ budget → (p : State) → w .transfer .state ≡ p →
+          StateKept (length text) budget (w .transfer .count) (w .transfer .reached .0) (w .cursor) m n p →
+          (w .transfer .state ≡ Done) × (w .transfer .count ≤ enough (length text) l)
+      finish l le₀ le₁ le₂ Running q i = absurd (omega (arith, first-le (w .accepted) text (v .first), v .reachedIs, i .0, i .2))
+      finish l le₀ le₁ le₂ Done q i = (q, omega (arith, i .1))
+      finish l le₀ le₁ le₂ Exhausted q i = absurd (omega (arith, i .0, i .1))
+      finish l le₀ le₁ le₂ Overflowed q i = absurd i
+
+  -- ---- the beginning
+  begun-kept : (cursor : Cursor) → budget ≤ mostBudget → Kept k text buffer budget (start k buffer budget cursor) 0 0
+  begun-kept cursor h =
+      rw (le-leb budget mostBudget h)
+      (record { kindIs = refl; sizeIs = refl; budgetIs = refl; reachedIs = refl; first = refl; holds = refl; countIs = refl; stateIs = state (eqb budget 0) refl })
+    where
+      state : (x : Bool) → eqb budget 0 ≡ x → StateKept (length text) budget 0 0 cursor 0 0 (cond x Exhausted Running)
+      state true q = (sym (eqb-true budget 0 q), omega arith)
+      state false q =
+          (refl, omega (arith, eqb-false budget 0 q), omega arith, record { sized = λ z. absurd (omega (arith, z)); near = λ z _. absurd (omega (arith, z)) })
+
+pub demand3 : Demand3 rules
+demand3 k text buffer budget cursor bytes small fits le es n c =
+    let z = all k text buffer budget bytes small fits (start k buffer budget cursor) es n c 0 0 (begun-kept k text buffer budget bytes small fits cursor le) in (
+      rw (le-leb budget mostBudget le),
+      z .0,
+      end k text buffer budget bytes small fits _ _ _ (renumber k text buffer budget bytes small fits _ _ _ _ _ (zero-add (length es)) (zero-add n) (z .1)),
+    )
+
+-- ---- which lists are courses
+
+module _ (k : TextKind) (text buffer : List ℕ) (budget : ℕ) (bytes : Bytes text) (small : length text ≤ longestText) (fits : length text ≤ length buffer) where
+  -- one exchange more
+  next : (w : World) (e : Exchange) (es : List Exchange) (m n : ℕ) → Kept k text buffer budget w m n → Genuine k text w e →
+      ((m′ n′ : ℕ) → Kept k text buffer budget (after w e) m′ n′ → (j : ℕ) × Course k text (after w e) es j) → (j : ℕ) × Course k text w (e ∷ es) j
+  next w e es m n v g rest = go (isOpen (w .transfer)) refl
+    where
+      f : Follows k text w e
+      f = g .follows
+
+      replied : isOpen (w .transfer) ≡ true → Replied e → (j : ℕ) × Course k text w (e ∷ es) j
+      replied o r = let z = rest (suc m) n (answered-kept k text buffer budget bytes small fits w e m n v o f r) in (z .0, answered f o r (z .1))
+
+      lost : Corrupted k w e → (j : ℕ) × Course k text w (e ∷ es) j
+      lost s = let z = rest (suc m) (suc n) (corrupted-kept k text buffer budget bytes small fits w e m n v f s) in (suc (z .0), corrupted f s (z .1))
+
+      by-reply : isOpen (w .transfer) ≡ true → Judged k w e → (j : ℕ) × Course k text w (e ∷ es) j
+      by-reply o (wanted d h) =
+          let p : ℕ = w .transfer .reached .0 in
+          replied o (g .own o d (read-valid k p d (e .came) (f .bytes) h) (read-begins k p d (e .came) (f .bytes) h))
+      by-reply o (other r h) =
+          lost
+          (record {
+            running = o;
+            noReply = λ x. h _ (reply-read k text buffer budget bytes small fits w e m n v o (e .turn) (f .lawful) x .1);
+            noFragment = λ d y b. h d (ap readReply (b .1) ∙ read-fragment k (w .transfer .reached .0) d (b .0) y);
+          })
+
+      go : (b : Bool) → isOpen (w .transfer) ≡ b → (j : ℕ) × Course k text w (e ∷ es) j
+      go false o = let z = rest (suc m) n (closed-kept k text buffer budget bytes small fits w e m n v o) in (z .0, closed f o (z .1))
+      go true o = by-reply o (judged k text buffer budget bytes small fits w e m n v)
+
+  from : (w : World) (es : List Exchange) (m n : ℕ) → Kept k text buffer budget w m n → Each (Genuine k text) w es → (j : ℕ) × Course k text w es j
+  from w [] m n v g = (0, ended)
+  from w (e ∷ es) m n v g = next w e es m n v (g .0) (λ m′ n′ v′. from (after w e) es m′ n′ v′ (g .1))
+
+genuine : (k : TextKind) (text : List ℕ) (w : World) (es : List Exchange) (n : ℕ) → Course k text w es n → Each (Genuine k text) w es
+genuine k text w es n ended = tt
+genuine k text w es n (answered {e = e} {es = rest} f o r c) = (record { follows = f; own = λ _ _ _ _. r }, genuine k text (after w e) rest n c)
+genuine k text w es n (corrupted {e = e} {es = rest} {n = i} f s c) =
+    (record { follows = f; own = λ _ d v b. absurd (s .noFragment d v b) }, genuine k text (after w e) rest i c)
+genuine k text w es n (closed {e = e} {es = rest} f o c) =
+    (record { follows = f; own = λ h _ _ _. absurd (true≢false (sym h ∙ o)) }, genuine k text (after w e) rest n c)
+
+pub covers : Covers rules
+covers =
+    record {
+      met = λ k text buffer budget cursor bytes small fits le es g.
+          from k text buffer budget bytes small fits (start k buffer budget cursor) es 0 0 (begun-kept k text buffer budget bytes small fits cursor le) g;
+      only = genuine;
+    }

@@ -1,0 +1,7 @@
+pub mod Messages
+pub mod Steps
+pub mod Coherent
+pub mod Kept
+pub mod Demand3
+pub mod Example
+pub mod Refuted

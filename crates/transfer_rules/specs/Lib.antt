@@ -1,0 +1,6 @@
+pub mod Limits
+pub mod Fragment
+pub mod Transfer
+pub mod Conforming
+pub mod Exchange
+pub mod Demand3

@@ -1,9 +1,16 @@
 -- Document 01, "Checked examples": every example marked [P], one table under one statement.
 use Prim.Native.Nat.{ℕ}
 use mathlib.Core.Path.{_≡_}
-use mathlib.Core.List.{List, [], _∷_}
+use mathlib.Core.List.{List, [], _∷_, map}
+use lib.ListN.{length}
+use Rattle.message_rules.specs.Answer.{wrongGrammar}
 use Rattle.message_rules.specs.Read.{ok}
 use Rattle.message_rules.specs.Message.{Request, get, set, timing, save, text, Reply, value, timingReply, textFragment, requests, replies, encode, decode, toDisplay, toHost}
+use Rattle.capabilities_rules.specs.Limits.{mostNodes, noParent}
+use Rattle.capabilities_rules.specs.Grammar.{Node}
+use Rattle.capabilities_rules.specs.Nodes.{nodesOf}
+use Rattle.capabilities_rules.specs.Outcome.{refused, outcome}
+use Rattle.capabilities_rules.specs.declared.Reading.the-variants.{Accepted}
 
 -- what an example says
 pub data Example : Type 0 where
@@ -11,11 +18,21 @@ pub data Example : Type 0 where
   sent : Request → List ℕ → Example
   -- a reply to the host, and its bytes
   answered : Reply → List ℕ → Example
+  -- a capabilities string that is accepted, and its nodes' starts, parents and groups
+  accepted : List ℕ → (starts parents groups : List ℕ) → Example
+  -- a capabilities string that is refused: the answer number, and its place
+  refusedAt : List ℕ → (number place : ℕ) → Example
 
--- a message is built as its bytes, and its bytes are read as the message
+-- a message is built as its bytes, and its bytes are read as the message; a capabilities string is read with room for 512 nodes
 abbrev pub Holds : Example → Type 0
 Holds (sent m s) = (encode requests toDisplay m ≡ s) × (decode requests toDisplay s ≡ ok m)
 Holds (answered m s) = (encode replies toHost m ≡ s) × (decode replies toHost s ≡ ok m)
+Holds (accepted s starts parents groups) =
+    (outcome mostNodes s ≡ Accepted (length starts))
+    × (map (λ x. x .start) (nodesOf s) ≡ starts)
+    × (map (λ x. x .parent) (nodesOf s) ≡ parents)
+    × (map (λ x. x .group) (nodesOf s) ≡ groups)
+Holds (refusedAt s number place) = outcome mostNodes s ≡ refused number place
 
 abbrev pub All : List Example → Type 0
 All [] = Unit {0}
@@ -38,4 +55,11 @@ examples =
     ∷ sent (text 0) (0x51 ∷ 0x83 ∷ 0xF3 ∷ 0x00 ∷ 0x00 ∷ 0x4F ∷ [])
     -- "empty piece at 0"
     ∷ answered (textFragment 0 []) (0x6E ∷ 0x83 ∷ 0xE3 ∷ 0x00 ∷ 0x00 ∷ 0x5E ∷ [])
+    -- (vcp(10 14(05 08))): "starts 1, 5, 8, 11, 14; parents 65,535, 0, 0, 2, 2; groups at nodes 0 and 2"
+    ∷ accepted (0x28 ∷ 0x76 ∷ 0x63 ∷ 0x70 ∷ 0x28 ∷ 0x31 ∷ 0x30 ∷ 0x20 ∷ 0x31 ∷ 0x34 ∷ 0x28 ∷ 0x30 ∷ 0x35 ∷ 0x20 ∷ 0x30 ∷ 0x38 ∷ 0x29 ∷ 0x29 ∷ 0x29 ∷ [])
+    (1 ∷ 5 ∷ 8 ∷ 11 ∷ 14 ∷ []) (noParent ∷ 0 ∷ 0 ∷ 2 ∷ 2 ∷ []) (1 ∷ 0 ∷ 1 ∷ 0 ∷ 0 ∷ [])
+    -- (): "no nodes"
+    ∷ accepted (0x28 ∷ 0x29 ∷ []) [] [] []
+    -- (a(b)(c)): "13 at 5"
+    ∷ refusedAt (0x28 ∷ 0x61 ∷ 0x28 ∷ 0x62 ∷ 0x29 ∷ 0x28 ∷ 0x63 ∷ 0x29 ∷ 0x29 ∷ []) wrongGrammar 5
     ∷ []

@@ -1,0 +1,286 @@
+// Reads a capabilities string: accepted or refused as document 01's grammar says, with its tree as nodes in four lent buffers.
+// A checker judges the whole string before the filler stores the first node, so that a refusal changes no buffer.
+use capabilities_rules::Reading;
+use capabilities_rules::limits::DEEPEST;
+use capabilities_rules::limits::MOST_NODES;
+use capabilities_rules::limits::NO_PARENT;
+use message_rules::Position;
+use message_rules::answer;
+use message_rules::limits::LONGEST_TEXT;
+ghost use mathlib.Core.Path.{_≡_};
+ghost use Prim.Native.Nat.{ℕ, _+_, _-_, _≤_, _<_, min};
+ghost use mathlib.Core.Bool.{cond};
+ghost use lib.Dec.{eqb};
+ghost use lib.ListN.{length, drop, getD};
+ghost use Rattle.message_rules.specs.Limits.{longestText};
+ghost use Rattle.capabilities_rules.specs.Limits.{deepest};
+ghost use Rattle.capabilities_rules.specs.Grammar.{Node};
+ghost use Rattle.capabilities_rules.specs.Machine.{kindOf, isLetter};
+ghost use Rattle.capabilities_rules.specs.Outcome.{outcome};
+ghost use Rattle.capabilities_rules.specs.Nodes.{letters};
+ghost use Rattle.capabilities_rules.specs.Buffers.{buffers, bufferRoom, roomOf, Answered};
+ghost use Rattle.capabilities.specs.Group.{spaces, around, node, put, Checked, Fillable, Filled};
+
+const SPACE: u8 = 0x20;
+
+const FIRST_LETTER: u8 = 0x21;
+
+const OPEN: u8 = 0x28;
+
+const CLOSE: u8 = 0x29;
+
+const LAST_LETTER: u8 = 0x7e;
+
+// What the checker of a group finds.
+enum Group {
+    // The position past its ")", and the nodes made by then.
+    Closed(usize, usize),
+    // The answer number, and the position that is refused.
+    Stopped(u8, usize),
+}
+
+// The position past a group, and the nodes made by then.
+struct Past {
+    next: usize,
+    count: usize,
+}
+
+fn is_letter(b: u8) -> bool
+    ensures { λ r. ⌜ r ≡ isLetter (kindOf b) ⌝ }
+{
+    match b {
+        OPEN => false,
+        CLOSE => false,
+        FIRST_LETTER..=LAST_LETTER => true,
+        _ => false,
+    }
+}
+
+// The position past the letters that stand from `start` on.
+fn word_end(text: &[u8], start: usize) -> usize
+    requires { ⌜ start ≤ length (now text) ⌝ }
+    ensures { λ r. ⌜ (r ≡ start + letters (drop start (now (text .entry)))) × (r ≤ length (now (text .entry))) ⌝ }
+{
+    let mut at = start;
+    while at < text.len() {
+        if is_letter(text[at]) {
+            at += 1;
+        } else {
+            return at;
+        }
+    }
+    at
+}
+
+// The position past the spaces that stand from `start` on.
+fn skip_spaces(text: &[u8], start: usize) -> usize
+    requires { ⌜ start ≤ length (now text) ⌝ }
+    ensures { λ r. ⌜ (r ≡ start + spaces (drop start (now (text .entry)))) × (r ≤ length (now (text .entry))) ⌝ }
+{
+    let mut at = start;
+    while at < text.len() {
+        if text[at] == SPACE {
+            at += 1;
+        } else {
+            return at;
+        }
+    }
+    at
+}
+
+// Whether a "(" stands at `at`.
+fn opens_at(text: &[u8], at: usize) -> bool
+    ensures { λ r. ⌜ r ≡ eqb (getD (now (text .entry)) at 0) 0x28 ⌝ }
+{
+    if at < text.len() {
+        return text[at] == OPEN;
+    }
+    false
+}
+
+// Checks the group whose list begins at `start`, with `left` levels left inside it, `count` nodes made, and `room` for nodes.
+fn check_group(text: &[u8], start: usize, left: usize, count: usize, room: usize) -> Group
+    requires { ⌜ (start ≤ length (now text)) × (left < deepest) × (count ≤ room) ⌝ }
+    ensures { λ r. ⌜ Checked room start count (around left) (now (text .entry)) r ⌝ }
+{
+    let mut at = skip_spaces(text, start);
+    let mut n = count;
+    while at < text.len() {
+        if text[at] == CLOSE {
+            return Group::Closed(at + 1, n);
+        }
+        if !is_letter(text[at]) {
+            return Group::Stopped(answer::WRONG_GRAMMAR, at);
+        }
+        if room <= n {
+            return Group::Stopped(answer::NO_NODE_ROOM, at);
+        }
+        let next = skip_spaces(text, word_end(text, at + 1));
+        if opens_at(text, next) {
+            if left == 0 {
+                return Group::Stopped(answer::TOO_DEEP, next);
+            }
+            let inner = check_group(text, next + 1, left - 1, n + 1, room);
+            match inner {
+                Group::Closed(past, made) => {
+                    at = skip_spaces(text, past);
+                    n = made;
+                }
+                Group::Stopped(number, place) => return Group::Stopped(number, place),
+            }
+        } else {
+            at = next;
+            n += 1;
+        }
+    }
+    Group::Stopped(answer::WRONG_GRAMMAR, at)
+}
+
+// Whether a node has a group, as a buffer holds it.
+fn flag(has: bool) -> u8
+    ensures { λ r. ⌜ r ≡ cond has 1 0 ⌝ }
+{
+    if has { 1 } else { 0 }
+}
+
+// Stores the node of the word from `start` to `end` as entry n.
+fn put_node(
+    n: usize,
+    start: usize,
+    end: usize,
+    parent: u16,
+    opens: bool,
+    starts: &mut [u16],
+    lengths: &mut [u16],
+    parents: &mut [u16],
+    groups: &mut [u8],
+)
+    requires { ⌜ (start ≤ end) × (end ≤ longestText) × (n < bufferRoom (buffers (now starts) (now lengths) (now parents) (now groups))) ⌝ }
+    ensures { λ _. ⌜ buffers (now (starts .exit)) (now (lengths .exit)) (now (parents .exit)) (now (groups .exit)) ≡ put (buffers (now (starts .entry)) (now (lengths .entry)) (now (parents .entry)) (now (groups .entry))) n (node start (end - start) parent (cond opens 1 0)) ⌝ }
+{
+    starts[n] = start as u16;
+    lengths[n] = (end - start) as u16;
+    parents[n] = parent;
+    groups[n] = flag(opens);
+}
+
+// Stores the nodes of an accepted string's group whose list begins at `start`.
+fn fill_group(
+    text: &[u8],
+    start: usize,
+    left: usize,
+    parent: u16,
+    count: usize,
+    starts: &mut [u16],
+    lengths: &mut [u16],
+    parents: &mut [u16],
+    groups: &mut [u8],
+) -> Past
+    requires { ⌜ Fillable start left count (now text) (buffers (now starts) (now lengths) (now parents) (now groups)) ⌝ }
+    ensures { λ r. ⌜ Filled start left count parent (now (text .entry)) (buffers (now (starts .entry)) (now (lengths .entry)) (now (parents .entry)) (now (groups .entry))) (buffers (now (starts .exit)) (now (lengths .exit)) (now (parents .exit)) (now (groups .exit))) (r .next) (r .count) ⌝ }
+{
+    let mut at = skip_spaces(text, start);
+    let mut n = count;
+    while at < text.len() {
+        if text[at] == CLOSE {
+            return Past {
+                next: at + 1,
+                count: n,
+            };
+        }
+        let end = word_end(text, at + 1);
+        let next = skip_spaces(text, end);
+        let opens = opens_at(text, next);
+        put_node(n, at, end, parent, opens, starts, lengths, parents, groups);
+        if opens {
+            let inner = fill_group(
+                text,
+                next + 1,
+                left - 1,
+                n as u16,
+                n + 1,
+                starts,
+                lengths,
+                parents,
+                groups,
+            );
+            at = skip_spaces(text, inner.next);
+            n = inner.count;
+        } else {
+            at = next;
+            n += 1;
+        }
+    }
+    // Not reached in an accepted string.
+    Past { next: at, count: n }
+}
+
+fn least(a: usize, b: usize) -> usize
+    ensures { λ r. ⌜ r ≡ min a b ⌝ }
+{
+    if a <= b { a } else { b }
+}
+
+// The room for nodes, from the lengths of the four buffers.
+fn room_of(a: usize, b: usize, c: usize, d: usize) -> usize
+    ensures { λ r. ⌜ r ≡ roomOf a b c d ⌝ }
+{
+    least(MOST_NODES, least(least(a, b), least(c, d)))
+}
+
+// The answer to a string, with room for `room` nodes.
+fn check(text: &[u8], room: usize) -> Reading
+    ensures { λ r. ⌜ r ≡ outcome room (now (text .entry)) ⌝ }
+{
+    if LONGEST_TEXT < text.len() {
+        return Reading::Refused(answer::TEXT_TOO_LONG, Position(0));
+    }
+    if text.len() == 0 {
+        return Reading::Refused(answer::WRONG_GRAMMAR, Position(0));
+    }
+    if text[0] != OPEN {
+        return Reading::Refused(answer::WRONG_GRAMMAR, Position(0));
+    }
+    let outer = check_group(text, 1, DEEPEST - 1, 0, room);
+    match outer {
+        Group::Closed(next, count) => {
+            if next < text.len() {
+                Reading::Refused(answer::WRONG_GRAMMAR, Position(next))
+            } else {
+                Reading::Accepted(count)
+            }
+        }
+        Group::Stopped(number, place) => Reading::Refused(number, Position(place)),
+    }
+}
+
+// Reads a capabilities string: the number of nodes, with the nodes in the lent buffers; or the refusal and its position.
+pub fn read(
+    text: &[u8],
+    starts: &mut [u16],
+    lengths: &mut [u16],
+    parents: &mut [u16],
+    groups: &mut [u8],
+) -> Reading
+    ensures { λ r. ⌜ Answered (now (text .entry)) (buffers (now (starts .entry)) (now (lengths .entry)) (now (parents .entry)) (now (groups .entry))) (buffers (now (starts .exit)) (now (lengths .exit)) (now (parents .exit)) (now (groups .exit))) r ⌝ }
+{
+    let room = room_of(starts.len(), lengths.len(), parents.len(), groups.len());
+    let judged = check(text, room);
+    match judged {
+        Reading::Accepted(count) => {
+            fill_group(
+                text,
+                1,
+                DEEPEST - 1,
+                NO_PARENT,
+                0,
+                starts,
+                lengths,
+                parents,
+                groups,
+            );
+            Reading::Accepted(count)
+        }
+        Reading::Refused(number, place) => Reading::Refused(number, place),
+    }
+}

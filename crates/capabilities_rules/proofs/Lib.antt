@@ -1,0 +1,12 @@
+-- The laws of the machine, and the theorems on the definitions.
+pub mod Bytes
+pub mod Laws
+pub mod Whole
+pub mod Walk
+pub mod Parse
+pub mod Acceptance
+pub mod Unique
+pub mod Prefixes
+pub mod Refusals
+pub mod Exactly
+pub mod Theorems

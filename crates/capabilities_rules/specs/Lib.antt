@@ -1,0 +1,9 @@
+pub mod Limits
+pub mod Grammar
+pub mod Kinds
+pub mod Machine
+pub mod Outcome
+pub mod Nodes
+pub mod Buffers
+pub mod Prefixes
+pub mod Theorems

@@ -1,0 +1,283 @@
+// Runs document 01's unmarked examples of capabilities strings, and strings of real monitors, against worked-out answers.
+// Writes one line a group: how many of its strings were answered right.
+use capabilities_rules::Reading;
+use capabilities_rules::limits::DEEPEST;
+use capabilities_rules::limits::MOST_NODES;
+use libc::STDOUT_FILENO;
+use message_rules::answer;
+use message_rules::limits::LONGEST_TEXT;
+
+// What a string is to be answered: the number of nodes and their digest, or the answer number and its position.
+enum Wanted {
+    Nodes(usize, u32),
+    Refusal(u8, usize),
+}
+
+// How many strings were tried, and how many of them were answered right.
+struct Tally {
+    tried: u64,
+    right: u64,
+}
+
+fn wide(x: u16) -> u32 {
+    x as u32
+}
+
+fn wide_byte(x: u8) -> u32 {
+    x as u32
+}
+
+// Three times the digest and the value, so that each value counts, and its place.
+fn mix(digest: u32, value: u32) -> u32 {
+    let twice = std::num::wrapping_add_u32(digest, digest);
+    std::num::wrapping_add_u32(std::num::wrapping_add_u32(twice, digest), value)
+}
+
+// The digest of a node behind those before it.
+fn mix_node(digest: u32, start: u16, length: u16, parent: u16, group: u8) -> u32 {
+    mix(
+        mix(mix(mix(digest, wide(start)), wide(length)), wide(parent)),
+        wide_byte(group),
+    )
+}
+
+fn digest(
+    starts: [u16; MOST_NODES],
+    lengths: [u16; MOST_NODES],
+    parents: [u16; MOST_NODES],
+    groups: [u8; MOST_NODES],
+    count: usize,
+) -> u32 {
+    let mut all: u32 = 0;
+    for i in 0usize..MOST_NODES {
+        if i < count {
+            all = mix_node(all, starts[i], lengths[i], parents[i], groups[i]);
+        }
+    }
+    all
+}
+
+// The first n entries, or all where there are fewer.
+fn front(buffer: &mut [u8], n: usize) -> &mut [u8] {
+    if n < buffer.len() {
+        &mut buffer[0..n]
+    } else {
+        buffer
+    }
+}
+
+fn wants_nodes(wanted: Wanted, count: usize, all: u32) -> bool {
+    match wanted {
+        Wanted::Nodes(n, d) => n == count && d == all,
+        Wanted::Refusal(number, place) => false,
+    }
+}
+
+fn wants_refusal(wanted: Wanted, number: u8, place: usize) -> bool {
+    match wanted {
+        Wanted::Nodes(n, d) => false,
+        Wanted::Refusal(k, p) => k == number && p == place,
+    }
+}
+
+// Whether a string, with room for `room` nodes, is answered as wanted.
+fn answers(text: &[u8], room: usize, wanted: Wanted) -> bool {
+    let mut starts = [0u16; MOST_NODES];
+    let mut lengths = [0u16; MOST_NODES];
+    let mut parents = [0u16; MOST_NODES];
+    let mut groups = [0u8; MOST_NODES];
+    let reading = capabilities::read(
+        text,
+        &mut starts,
+        &mut lengths,
+        &mut parents,
+        front(&mut groups, room),
+    );
+    match reading {
+        Reading::Accepted(count) => wants_nodes(
+            wanted,
+            count,
+            digest(starts, lengths, parents, groups, count),
+        ),
+        Reading::Refused(number, position) => wants_refusal(wanted, number, position.0),
+    }
+}
+
+fn none() -> Tally {
+    Tally { tried: 0, right: 0 }
+}
+
+// The tally with one string more.
+fn tried(t: Tally, text: &[u8], room: usize, wanted: Wanted) -> Tally {
+    let all = std::num::wrapping_add_u64(t.tried, 1);
+    if answers(text, room, wanted) {
+        return Tally {
+            tried: all,
+            right: std::num::wrapping_add_u64(t.right, 1),
+        };
+    }
+    Tally {
+        tried: all,
+        right: t.right,
+    }
+}
+
+// The tally with one string more, that has all the room for nodes.
+fn roomy(t: Tally, text: &[u8], wanted: Wanted) -> Tally {
+    tried(t, text, MOST_NODES, wanted)
+}
+
+fn report(name: &[u8], t: Tally) {
+    io::write_all(STDOUT_FILENO, name);
+    io::write_all(STDOUT_FILENO, b": ");
+    io::print_decimal(STDOUT_FILENO, t.right);
+    io::write_all(STDOUT_FILENO, b" of ");
+    io::print_decimal(STDOUT_FILENO, t.tried);
+    io::write_all(STDOUT_FILENO, b" right\n");
+}
+
+fn wrong(place: usize) -> Wanted {
+    Wanted::Refusal(answer::WRONG_GRAMMAR, place)
+}
+
+// Document 01's examples, those marked [P] too.
+fn examples() {
+    let mut t = none();
+    t = roomy(t, b"(vcp(10 14(05 08)))", Wanted::Nodes(5, 270490155));
+    t = roomy(t, b"()", Wanted::Nodes(0, 0));
+    t = roomy(t, b"(a(b)(c))", wrong(5));
+    t = roomy(t, b"((05))", wrong(1));
+    t = roomy(t, b"(a) ", wrong(3));
+    t = roomy(t, b"(a", wrong(2));
+    report(b"examples", t);
+}
+
+// What document 01 leaves to its reader's care: where a group may stand, spaces, bytes at the edges of the letters.
+fn readings() {
+    let mut t = none();
+    t = roomy(t, b"", wrong(0));
+    t = roomy(t, b"a", wrong(0));
+    t = roomy(t, b"(a(b)c)", Wanted::Nodes(3, 1290372201));
+    t = roomy(t, b"(a(b) (c))", wrong(6));
+    t = roomy(t, b"(a )", Wanted::Nodes(1, 196641));
+    t = roomy(t, b"(\x7f)", wrong(1));
+    t = roomy(t, b"(a\x1f)", wrong(2));
+    report(b"readings", t);
+}
+
+// Stores a byte, where the buffer has the place.
+fn put(out: &mut [u8], at: usize, b: u8) {
+    if at < out.len() {
+        out[at] = b;
+    }
+}
+
+// The one byte where the places are both even or both odd, else the other.
+fn in_turn(from: usize, at: usize, first: u8, second: u8) -> u8 {
+    if at % 2 == from % 2 { first } else { second }
+}
+
+// Fills out[from..to] with two bytes in turn.
+fn fill(out: &mut [u8], from: usize, to: usize, first: u8, second: u8) {
+    for i in from..to {
+        put(out, i, in_turn(from, i, first, second));
+    }
+}
+
+// Groups within each other, a word before each, that open up to the place `middle` and close up to `end`: (a(a(a)))
+fn nested(text: &mut [u8], middle: usize, end: usize) {
+    fill(text, 0, middle, b'(', b'a');
+    fill(text, middle, end, b')', b')');
+}
+
+// One group whose list alternates two bytes, with its ")" at the place `last`.
+fn listed(text: &mut [u8], last: usize, first: u8, second: u8) {
+    put(text, 0, b'(');
+    fill(text, 1, last, first, second);
+    put(text, last, b')');
+}
+
+// Eight levels are read; the ninth "(" is 15.
+fn depth() {
+    let mut eight = [0u8; 24];
+    nested(&mut eight, 16, 24);
+    let mut nine = [0u8; 27];
+    nested(&mut nine, 18, 27);
+    let mut t = none();
+    t = roomy(t, &eight, Wanted::Nodes(8, 4090424395));
+    t = roomy(t, &nine, Wanted::Refusal(answer::TOO_DEEP, 16));
+    report(b"depth 8 and 9", t);
+}
+
+// 4,096 bytes are read; one more is 11 at 0.
+fn length() {
+    let mut longest = [0u8; LONGEST_TEXT];
+    listed(&mut longest, LONGEST_TEXT - 1, b'a', b'a');
+    let mut longer = [0u8; LONGEST_TEXT + 1];
+    listed(&mut longer, LONGEST_TEXT, b'a', b'a');
+    let mut t = none();
+    t = roomy(t, &longest, Wanted::Nodes(1, 233478));
+    t = roomy(t, &longer, Wanted::Refusal(answer::TEXT_TOO_LONG, 0));
+    report(b"4096 and 4097 bytes", t);
+}
+
+// 512 words are read; the next one is 14 at its first byte. Less room is less.
+fn room() {
+    let mut most = [0u8; MOST_NODES * 2 + 2];
+    listed(&mut most, MOST_NODES * 2 + 1, b'a', b' ');
+    let mut more = [0u8; MOST_NODES * 2 + 4];
+    listed(&mut more, MOST_NODES * 2 + 3, b'a', b' ');
+    let mut t = none();
+    t = roomy(t, &most, Wanted::Nodes(512, 162003968));
+    t = roomy(t, &more, Wanted::Refusal(answer::NO_NODE_ROOM, 1025));
+    t = tried(t, b"()", 0, Wanted::Nodes(0, 0));
+    t = tried(t, b"(  )", 0, Wanted::Nodes(0, 0));
+    t = tried(t, b"(a)", 0, Wanted::Refusal(answer::NO_NODE_ROOM, 1));
+    t = tried(t, b"(a b)", 1, Wanted::Refusal(answer::NO_NODE_ROOM, 3));
+    report(b"512 and 513 words", t);
+}
+
+// Strings as monitors give them: source 004's, two whole ones, one with windows, one that ends with a zero byte, one cut off.
+fn monitors() {
+    let mut t = none();
+    t = roomy(
+        t,
+        b"(vcp(10 12 16 18 1A 50 92))",
+        Wanted::Nodes(8, 1847922888),
+    );
+    t = roomy(
+        t,
+        b"(prot(monitor)type(LCD)model(P2419H)cmds(01 02 03 07 0C E3 F3)vcp(02 04 05 08 10 12 14(05 08 0B 0C) 16 18 1A 52 60(01 0F 11) AA(01 02) AC AE B2 B6 C6 C8 C9 D6(01 04 05) DC(00 03 05) DF E0 E1 E2(00 02 04 0E 12 14) F0(00 08) F1(01 02) F2 FD)mswhql(1)asset_eep(40)mccs_ver(2.1))",
+        Wanted::Nodes(76, 392568916),
+    );
+    t = roomy(
+        t,
+        b"(prot(monitor)type(lcd)model(ACER VG270)cmds(01 02 03 07 0C E3 F3)vcp(02 04 05 08 10 12 14(05 06 08 0B) 16 18 1A 52 60(01 03 0F 11) 6C 6E 70 72(50 64 78 8C A0) 86(02 08) 87 AC AE B2 B6 C0 C6 C8 C9 CA(01 02) CC(02 03 04 05 06 08 09 0A 0D) D6(01 04 05) DF FD FF)mswhql(1)asset_eep(40)mccs_ver(2.2))",
+        Wanted::Nodes(83, 507510101),
+    );
+    t = roomy(
+        t,
+        b"(prot(display)type(lcd)model(xxxxx)cmds(xxxxx)vcp(02 03 10 12 C8 DC(00 01 02 03 07) DF)mccs_ver(2.2)window1(type(PIP)area(25 25 1895 1175)max(640 480)min(10 10)window(10))vcpname(10(Brightness)))",
+        Wanted::Nodes(42, 798556488),
+    );
+    t = roomy(
+        t,
+        b"(prot(monitor)type(LCD)model(X)vcp(10 12))\0",
+        wrong(42),
+    );
+    t = roomy(
+        t,
+        b"(prot(monitor)type(LCD)vcp(10 12 14(05 08 0B)",
+        wrong(45),
+    );
+    report(b"monitors", t);
+}
+
+fn main() {
+    examples();
+    readings();
+    depth();
+    length();
+    room();
+    monitors();
+}

@@ -1,0 +1,125 @@
+// Transfers for Rust and C: a transfer's state as numbers. A state that no call has made is judged like any other, never trusted.
+ghost use mathlib.Core.Path.{_≡_};
+ghost use lib.ListN.{length};
+ghost use Rattle.ddcci.specs.Transfers.{stateOf, stateNumber, kindNumber, transferOf, numbersOf, beganNumbers, beginNumbers, Requests, Receives};
+ghost use Rattle.transfer_rules.specs.Transfer as rules;
+use crate::BuiltNumbers;
+use message_rules::TextKind;
+use message_rules::TextOffset;
+use message_rules::answer;
+use transfer_rules::Begun;
+use transfer_rules::Received;
+use transfer_rules::Requested;
+use transfer_rules::State;
+use transfer_rules::Transfer;
+
+// A transfer: the length of the buffer that it was begun with; the offset reached; its budget and count; the text (0 the capabilities string, 1 the table); and its state (0 running, 1 done, 2 exhausted, 3 overflowed).
+#[repr(C)]
+pub struct TransferNumbers {
+    pub size: usize,
+    pub offset: u16,
+    pub budget: u16,
+    pub count: u16,
+    pub kind: u8,
+    pub state: u8,
+}
+
+// An answer number, with the transfer afterwards.
+#[repr(C)]
+pub struct MovedNumbers {
+    pub transfer: TransferNumbers,
+    pub answer: u8,
+}
+
+// A number above 3 is no state that runs.
+fn state_of(number: u8) -> State
+    ensures { λ r. ⌜ r ≡ stateOf number ⌝ }
+{
+    match number {
+        0 => State::Running,
+        1 => State::Done,
+        2 => State::Exhausted,
+        3..=255 => State::Overflowed,
+    }
+}
+
+fn state_number(state: State) -> u8
+    ensures { λ r. ⌜ r ≡ stateNumber state ⌝ }
+{
+    match state {
+        State::Running => 0,
+        State::Done => 1,
+        State::Exhausted => 2,
+        State::Overflowed => 3,
+    }
+}
+
+fn kind_number(kind: TextKind) -> u8
+    ensures { λ r. ⌜ r ≡ kindNumber kind ⌝ }
+{
+    match kind {
+        TextKind::Capabilities => 0,
+        TextKind::Table => 1,
+    }
+}
+
+fn transfer_of(kind: TextKind, n: TransferNumbers) -> Transfer
+    ensures { λ r. ⌜ r ≡ transferOf kind n ⌝ }
+{
+    let state = state_of(n.state);
+    Transfer {
+        kind: kind,
+        state: state,
+        reached: TextOffset(n.offset),
+        size: n.size,
+        budget: n.budget,
+        count: n.count,
+    }
+}
+
+fn numbers_of(t: Transfer) -> TransferNumbers
+    ensures { λ r. ⌜ r ≡ numbersOf t ⌝ }
+{
+    let kind = t.kind;
+    let state = t.state;
+    TransferNumbers {
+        size: t.size,
+        offset: t.reached.0,
+        budget: t.budget,
+        count: t.count,
+        kind: kind_number(kind),
+        state: state_number(state),
+    }
+}
+
+fn began_numbers(begun: Begun) -> MovedNumbers
+    ensures { λ r. ⌜ r ≡ beganNumbers begun ⌝ }
+{
+    let transfer = numbers_of(begun.transfer);
+    MovedNumbers {
+        transfer: transfer,
+        answer: begun.answer,
+    }
+}
+
+// Begins a transfer; an unknown text is 6, with a transfer that is closed.
+#[no_mangle]
+pub extern "C" fn ddcci_begin(kind: u8, buffer: &[u8], budget: usize) -> MovedNumbers
+    ensures { λ r. ⌜ r ≡ beginNumbers kind (length (now (buffer .entry))) budget ⌝ }
+{
+    match kind {
+        0 => began_numbers(transfer::begin(TextKind::Capabilities, buffer, budget)),
+        1 => began_numbers(transfer::begin(TextKind::Table, buffer, budget)),
+        2..=255 => MovedNumbers {
+            transfer: TransferNumbers {
+                size: 0,
+                offset: 0,
+                budget: 0,
+                count: 0,
+                kind: kind,
+                state: 2,
+            },
+            answer: answer::UNKNOWN_COMMAND,
+        },
+    }
+}

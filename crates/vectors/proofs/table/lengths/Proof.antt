@@ -1,0 +1,74 @@
+-- `vectors::table::lengths` is safe and ends. The measure is what is left of the lengths up to 35.
+use Prim.Native.Nat.{_≤_, _-_}
+use borrow.Author.Needs.{needs}
+use Rattle.vectors.proofs.table.lengths.Statement.{statement}
+use Rattle.vectors.proofs.table.lengths.Tie as tie
+
+abbrev Inv-loop : tie.InvT-loop
+Inv-loop direction command sum₀ high n₀ sum n = n ≤ 36
+
+abbrev μ-loop : tie.MeasureT-loop
+μ-loop direction command sum₀ high n₀ sum n = 36 - n
+
+none-requires : tie.Need-none-requires Inv-loop μ-loop
+none-requires c κs = search needs
+
+form-requires : tie.Need-form-requires Inv-loop μ-loop
+form-requires c κs = search needs
+
+loop-holds : tie.Need-loop-holds Inv-loop μ-loop
+loop-holds c = search needs
+
+body-requires : tie.Need-body-requires Inv-loop μ-loop
+body-requires c κs = search needs
+
+framed-requires : tie.Need-framed-requires Inv-loop μ-loop
+framed-requires c κs = search needs
+
+count-requires : tie.Need-count-requires Inv-loop μ-loop
+count-requires c κs = search needs
+
+framed-requires-2 : tie.Need-framed-requires-2 Inv-loop μ-loop
+framed-requires-2 c κs = search needs
+
+count-requires-2 : tie.Need-count-requires-2 Inv-loop μ-loop
+count-requires-2 c κs = search needs
+
+framed-requires-3 : tie.Need-framed-requires-3 Inv-loop μ-loop
+framed-requires-3 c κs = search needs
+
+count-requires-3 : tie.Need-count-requires-3 Inv-loop μ-loop
+count-requires-3 c κs = search needs
+
+add-n : tie.Need-add-n Inv-loop μ-loop
+add-n c = search needs
+
+loop-less : tie.Need-loop-less Inv-loop μ-loop
+loop-less c = search needs
+
+loop-again : tie.Need-loop-again Inv-loop μ-loop
+loop-again c = search needs
+
+returns : tie.Need-returns Inv-loop μ-loop
+returns c = search needs
+
+pub lengths-spec : {M : Type 1} → statement M
+lengths-spec =
+    tie.close
+    (tie.spec
+    Inv-loop
+    μ-loop
+    none-requires
+    form-requires
+    loop-holds
+    body-requires
+    framed-requires
+    count-requires
+    framed-requires-2
+    count-requires-2
+    framed-requires-3
+    count-requires-3
+    add-n
+    loop-less
+    loop-again
+    returns)

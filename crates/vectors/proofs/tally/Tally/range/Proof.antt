@@ -1,0 +1,54 @@
+-- `vectors::tally::Tally::range` is safe and ends. The measure is what is left of the count.
+use Prim.Native.Nat.{_≤_, _-_}
+use borrow.Author.Needs.{needs}
+use Rattle.vectors.proofs.tally.Tally.range.Statement.{statement}
+use Rattle.vectors.proofs.tally.Tally.range.Tie as tie
+
+abbrev Inv-loop : tie.InvT-loop
+Inv-loop code high low high-step low-step count sum₀ h₀ l₀ counter₀ sum h l counter = counter ≤ count
+
+abbrev μ-loop : tie.MeasureT-loop
+μ-loop code high low high-step low-step count sum₀ h₀ l₀ counter₀ sum h l counter = count - counter
+
+loop-holds : tie.Need-loop-holds Inv-loop μ-loop
+loop-holds c = search needs
+
+slice-aggregate-setting : tie.Need-slice-aggregate-setting Inv-loop μ-loop
+slice-aggregate-setting c = search needs
+
+setting-requires : tie.Need-setting-requires Inv-loop μ-loop
+setting-requires c κs = search needs
+
+wrapping-add-u8-requires : tie.Need-wrapping-add-u8-requires Inv-loop μ-loop
+wrapping-add-u8-requires c κs = search needs
+
+wrapping-add-u8-requires-2 : tie.Need-wrapping-add-u8-requires-2 Inv-loop μ-loop
+wrapping-add-u8-requires-2 c κs = search needs
+
+add-counter : tie.Need-add-counter Inv-loop μ-loop
+add-counter c = search needs
+
+loop-less : tie.Need-loop-less Inv-loop μ-loop
+loop-less c = search needs
+
+loop-again : tie.Need-loop-again Inv-loop μ-loop
+loop-again c = search needs
+
+returns : tie.Need-returns Inv-loop μ-loop
+returns c = search needs
+
+pub range-spec : {M : Type 1} → statement M
+range-spec =
+    tie.close
+    (tie.spec
+    Inv-loop
+    μ-loop
+    loop-holds
+    slice-aggregate-setting
+    setting-requires
+    wrapping-add-u8-requires
+    wrapping-add-u8-requires-2
+    add-counter
+    loop-less
+    loop-again
+    returns)

@@ -1,6 +1,8 @@
 // The library's functions for Rust and C: on numbers and slices alone, thin over the proved functions, refusing like them.
+pub mod capability;
 pub mod reply;
 pub mod request;
+pub mod transfers;
 
 ghost use mathlib.Core.Path.{_≡_};
 ghost use Rattle.ddcci.specs.Numbers.{builtNumbers};

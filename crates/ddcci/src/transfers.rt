@@ -1,15 +1,13 @@
 // Transfers for Rust and C: a transfer's state as numbers. A state that no call has made is judged like any other, never trusted.
 ghost use mathlib.Core.Path.{_≡_};
 ghost use lib.ListN.{length};
-ghost use Rattle.ddcci.specs.Transfers.{stateOf, stateNumber, kindNumber, transferOf, numbersOf, beganNumbers, beginNumbers, Requests, Receives};
+ghost use Rattle.ddcci.specs.Transfers.{stateOf, stateNumber, kindNumber, transferOf, numbersOf, beganNumbers, beginNumbers, requestOutcome, receiveNumbers, receivedNumbers, Requests, Receives};
 ghost use Rattle.transfer_rules.specs.Transfer as rules;
 use crate::BuiltNumbers;
 use message_rules::TextKind;
 use message_rules::TextOffset;
 use message_rules::answer;
 use transfer_rules::Begun;
-use transfer_rules::Received;
-use transfer_rules::Requested;
 use transfer_rules::State;
 use transfer_rules::Transfer;
 
@@ -119,6 +117,61 @@ pub extern "C" fn ddcci_begin(kind: u8, buffer: &[u8], budget: usize) -> MovedNu
                 kind: kind,
                 state: 2,
             },
+            answer: answer::UNKNOWN_COMMAND,
+        },
+    }
+}
+
+// The request of a transfer of this text.
+fn request_of(kind: TextKind, n: TransferNumbers, out: &mut [u8]) -> BuiltNumbers
+    ensures { λ r. ⌜ Requests (rules.request (transferOf kind n) (now (out .entry))) r (now (out .exit)) ⌝ }
+{
+    let requested = transfer::request(transfer_of(kind, n), out);
+    BuiltNumbers {
+        answer: requested.answer,
+        length: requested.len,
+    }
+}
+
+// Builds the request for the offset that the transfer has reached; an unknown text is 6, and nothing is written.
+#[no_mangle]
+pub extern "C" fn ddcci_request(n: TransferNumbers, out: &mut [u8]) -> BuiltNumbers
+    ensures { λ r. ⌜ Requests (requestOutcome (n .kind) n (now (out .entry))) r (now (out .exit)) ⌝ }
+{
+    let kind = n.kind;
+    match kind {
+        0 => request_of(TextKind::Capabilities, n, out),
+        1 => request_of(TextKind::Table, n, out),
+        2..=255 => BuiltNumbers {
+            answer: answer::UNKNOWN_COMMAND,
+            length: 0,
+        },
+    }
+}
+
+// What a transfer of this text receives.
+fn receive_of(kind: TextKind, n: TransferNumbers, buffer: &mut [u8], reply: &[u8]) -> MovedNumbers
+    ensures { λ r. ⌜ Receives (receivedNumbers (rules.receive (transferOf kind n) (now (buffer .entry)) (now (reply .entry)))) r (now (buffer .exit)) ⌝ }
+{
+    let received = transfer::receive(transfer_of(kind, n), buffer, reply);
+    let transfer = numbers_of(received.transfer);
+    MovedNumbers {
+        transfer: transfer,
+        answer: received.answer,
+    }
+}
+
+// Receives the bytes that came back; an unknown text is 6, and nothing changes.
+#[no_mangle]
+pub extern "C" fn ddcci_receive(n: TransferNumbers, buffer: &mut [u8], reply: &[u8]) -> MovedNumbers
+    ensures { λ r. ⌜ Receives (receiveNumbers (n .kind) n (now (buffer .entry)) (now (reply .entry))) r (now (buffer .exit)) ⌝ }
+{
+    let kind = n.kind;
+    match kind {
+        0 => receive_of(TextKind::Capabilities, n, buffer, reply),
+        1 => receive_of(TextKind::Table, n, buffer, reply),
+        2..=255 => MovedNumbers {
+            transfer: n,
             answer: answer::UNKNOWN_COMMAND,
         },
     }

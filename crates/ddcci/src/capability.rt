@@ -1,0 +1,45 @@
+// The capabilities reader for Rust and C.
+ghost use mathlib.Core.Path.{_≡_};
+ghost use Rattle.capabilities_rules.specs.Buffers.{buffers};
+ghost use Rattle.ddcci.specs.Capabilities.{readingNumbers, ReadsNumbers};
+use capabilities_rules::Reading;
+use message_rules::answer;
+
+// What reading a capabilities string answers: an answer number; the number of nodes, or 0; and the position that is refused, or 0.
+#[repr(C)]
+pub struct ReadingNumbers {
+    pub answer: u8,
+    pub nodes: usize,
+    pub position: usize,
+}
+
+fn reading_numbers(reading: Reading) -> ReadingNumbers
+    ensures { λ r. ⌜ r ≡ readingNumbers reading ⌝ }
+{
+    match reading {
+        Reading::Accepted(nodes) => ReadingNumbers {
+            answer: answer::DONE,
+            nodes: nodes,
+            position: 0,
+        },
+        Reading::Refused(number, at) => ReadingNumbers {
+            answer: number,
+            nodes: 0,
+            position: at.0,
+        },
+    }
+}
+
+// Reads a capabilities string into four buffers, one entry a node.
+#[no_mangle]
+pub extern "C" fn ddcci_read_capabilities(
+    text: &[u8],
+    starts: &mut [u16],
+    lengths: &mut [u16],
+    parents: &mut [u16],
+    groups: &mut [u8],
+) -> ReadingNumbers
+    ensures { λ r. ⌜ ReadsNumbers (now (text .entry)) (buffers (now (starts .entry)) (now (lengths .entry)) (now (parents .entry)) (now (groups .entry))) (buffers (now (starts .exit)) (now (lengths .exit)) (now (parents .exit)) (now (groups .exit))) r ⌝ }
+{
+    reading_numbers(capabilities::read(text, starts, lengths, parents, groups))
+}

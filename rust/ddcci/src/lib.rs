@@ -1,9 +1,13 @@
 //! Safe bindings of Paneknoll, a verified implementation of both ends of VESA DDC/CI 1.1.
 //!
 //! Every call below goes to a function that is proved, for all inputs, to be safe, to end and to answer as document 01 says. None of them panics on any bytes.
+mod capabilities;
 mod message;
 mod raw;
 mod refusal;
+mod transfer;
 
+pub use capabilities::{read_into, Capabilities, Node, Nodes, RefusedAt, MOST_NODES};
 pub use message::{Message, Reply, Request, MOST_FRAGMENT, MOST_WRITTEN, OUTPUT_ROOM};
 pub use refusal::Refusal;
+pub use transfer::{State, TextKind, Transfer};

@@ -20,7 +20,7 @@ pub struct Message {
 }
 
 impl Message {
-    fn built(build: impl FnOnce(&mut [u8]) -> Result<usize, Refusal>) -> Result<Message, Refusal> {
+    pub(crate) fn built(build: impl FnOnce(&mut [u8]) -> Result<usize, Refusal>) -> Result<Message, Refusal> {
         let mut bytes = [0; OUTPUT_ROOM];
         let length = build(&mut bytes)?;
         Ok(Message { bytes, length })

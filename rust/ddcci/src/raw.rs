@@ -83,3 +83,54 @@ extern "C" {
     ) -> Built;
     pub fn ddcci_build_null(out: *mut u8, out_len: usize) -> Built;
 }
+
+#[repr(C)]
+#[derive(Clone, Copy)]
+pub struct Reading {
+    pub answer: u8,
+    pub nodes: usize,
+    pub position: usize,
+}
+
+#[repr(C)]
+#[derive(Clone, Copy)]
+pub struct Transfer {
+    pub size: usize,
+    pub offset: u16,
+    pub budget: u16,
+    pub count: u16,
+    pub kind: u8,
+    pub state: u8,
+}
+
+#[repr(C)]
+#[derive(Clone, Copy)]
+pub struct Moved {
+    pub transfer: Transfer,
+    pub answer: u8,
+}
+
+extern "C" {
+    pub fn ddcci_read_capabilities(
+        text: *const u8,
+        text_len: usize,
+        starts: *mut u16,
+        starts_len: usize,
+        lengths: *mut u16,
+        lengths_len: usize,
+        parents: *mut u16,
+        parents_len: usize,
+        groups: *mut u8,
+        groups_len: usize,
+    ) -> Reading;
+
+    pub fn ddcci_begin(kind: u8, buffer: *const u8, buffer_len: usize, budget: usize) -> Moved;
+    pub fn ddcci_request(transfer: Transfer, out: *mut u8, out_len: usize) -> Built;
+    pub fn ddcci_receive(
+        transfer: Transfer,
+        buffer: *mut u8,
+        buffer_len: usize,
+        reply: *const u8,
+        reply_len: usize,
+    ) -> Moved;
+}

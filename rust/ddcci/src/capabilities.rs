@@ -1,0 +1,180 @@
+//! Capabilities strings and their trees.
+use crate::raw;
+use crate::refusal::Refusal;
+use std::fmt;
+
+/// The most nodes of a tree.
+pub const MOST_NODES: usize = 512;
+
+const NO_PARENT: u16 = 65_535;
+
+/// Four buffers that a capabilities string is read into, one entry a node. They can be used again for the next string.
+pub struct Nodes {
+    starts: [u16; MOST_NODES],
+    lengths: [u16; MOST_NODES],
+    parents: [u16; MOST_NODES],
+    groups: [u8; MOST_NODES],
+}
+
+impl Default for Nodes {
+    fn default() -> Self {
+        Nodes {
+            starts: [0; MOST_NODES],
+            lengths: [0; MOST_NODES],
+            parents: [0; MOST_NODES],
+            groups: [0; MOST_NODES],
+        }
+    }
+}
+
+/// Why a capabilities string was refused, and where.
+#[derive(Debug, Clone, Copy, PartialEq, Eq)]
+pub struct RefusedAt {
+    /// The refusal: 11, 13, 14 or 15.
+    pub refusal: Refusal,
+    /// The position in the string.
+    pub position: usize,
+}
+
+impl fmt::Display for RefusedAt {
+    fn fmt(&self, f: &mut fmt::Formatter<'_>) -> fmt::Result {
+        write!(f, "{} at {}", self.refusal, self.position)
+    }
+}
+
+impl std::error::Error for RefusedAt {}
+
+/// A capabilities string with its tree, in text order.
+///
+/// ```
+/// use ddcci::{Capabilities, Nodes};
+///
+/// let mut nodes = Nodes::default();
+/// let capabilities = Capabilities::read(b"(vcp(10 14(05 08)))", &mut nodes)?;
+/// let vcp = capabilities.nodes().next().unwrap();
+/// let codes: Vec<_> = capabilities.children(Some(&vcp)).map(|node| node.word).collect();
+/// assert_eq!((vcp.word, &codes[..]), (&b"vcp"[..], &[&b"10"[..], &b"14"[..]][..]));
+/// # Ok::<(), ddcci::RefusedAt>(())
+/// ```
+#[derive(Clone, Copy)]
+pub struct Capabilities<'a> {
+    text: &'a [u8],
+    nodes: &'a Nodes,
+    count: usize,
+}
+
+/// A word of a capabilities string.
+#[derive(Debug, Clone, Copy, PartialEq, Eq)]
+pub struct Node<'a> {
+    /// The node's number in text order.
+    pub index: usize,
+    /// The word's bytes.
+    pub word: &'a [u8],
+    /// Where the word starts in the string.
+    pub start: usize,
+    /// The node of the word whose group holds this one; `None` in the outer group.
+    pub parent: Option<usize>,
+    /// Whether the word is followed by a group.
+    pub has_group: bool,
+}
+
+impl<'a> Capabilities<'a> {
+    /// Reads a capabilities string. A refusal leaves the buffers as they were.
+    pub fn read(text: &'a [u8], nodes: &'a mut Nodes) -> Result<Capabilities<'a>, RefusedAt> {
+        let r = unsafe {
+            raw::ddcci_read_capabilities(
+                text.as_ptr(),
+                text.len(),
+                nodes.starts.as_mut_ptr(),
+                MOST_NODES,
+                nodes.lengths.as_mut_ptr(),
+                MOST_NODES,
+                nodes.parents.as_mut_ptr(),
+                MOST_NODES,
+                nodes.groups.as_mut_ptr(),
+                MOST_NODES,
+            )
+        };
+        match Refusal::check(r.answer) {
+            Ok(()) => Ok(Capabilities { text, nodes, count: r.nodes }),
+            Err(refusal) => Err(RefusedAt { refusal, position: r.position }),
+        }
+    }
+
+    /// The number of nodes.
+    pub fn len(&self) -> usize {
+        self.count
+    }
+
+    /// Whether there is no node.
+    pub fn is_empty(&self) -> bool {
+        self.count == 0
+    }
+
+    /// The node with this number.
+    pub fn node(&self, index: usize) -> Option<Node<'a>> {
+        if index >= self.count {
+            return None;
+        }
+        let start = usize::from(self.nodes.starts[index]);
+        let parent = self.nodes.parents[index];
+        Some(Node {
+            index,
+            word: &self.text[start..start + usize::from(self.nodes.lengths[index])],
+            start,
+            parent: (parent != NO_PARENT).then_some(usize::from(parent)),
+            has_group: self.nodes.groups[index] == 1,
+        })
+    }
+
+    /// All nodes, in text order.
+    pub fn nodes(&self) -> impl Iterator<Item = Node<'a>> + 'a {
+        let all = *self;
+        (0..self.count).filter_map(move |i| all.node(i))
+    }
+
+    /// The nodes of a word's group, or of the outer group.
+    pub fn children(&self, of: Option<&Node<'_>>) -> impl Iterator<Item = Node<'a>> + 'a {
+        let parent = of.map(|node| node.index);
+        self.nodes().filter(move |node| node.parent == parent)
+    }
+
+    /// How many groups a node stands in, the outer one aside.
+    pub fn depth(&self, node: &Node<'_>) -> usize {
+        let mut depth = 0;
+        let mut at = node.parent;
+        while let Some(index) = at {
+            depth += 1;
+            at = self.node(index).and_then(|n| n.parent);
+        }
+        depth
+    }
+}
+
+/// Reads into buffers of any lengths, as the C function does. Returns the number of nodes.
+pub fn read_into(
+    text: &[u8],
+    starts: &mut [u16],
+    lengths: &mut [u16],
+    parents: &mut [u16],
+    groups: &mut [u8],
+) -> Result<usize, RefusedAt> {
+    let r = unsafe {
+        raw::ddcci_read_capabilities(
+            text.as_ptr(),
+            text.len(),
+            starts.as_mut_ptr(),
+            starts.len(),
+            lengths.as_mut_ptr(),
+            lengths.len(),
+            parents.as_mut_ptr(),
+            parents.len(),
+            groups.as_mut_ptr(),
+            groups.len(),
+        )
+    };
+    match Refusal::check(r.answer) {
+        Ok(()) => Ok(r.nodes),
+        Err(refusal) => Err(RefusedAt { refusal, position: r.position }),
+    }
+}

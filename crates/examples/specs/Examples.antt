@@ -3,7 +3,8 @@ use Prim.Native.Nat.{ℕ}
 use mathlib.Core.Path.{_≡_}
 use mathlib.Core.List.{List, [], _∷_, map}
 use lib.ListN.{length}
-use Rattle.message_rules.specs.Answer.{wrongGrammar}
+use mathlib.Core.Bool.{true}
+use Rattle.message_rules.specs.Answer.{done, wrongGrammar}
 use Rattle.message_rules.specs.Read.{ok}
 use Rattle.message_rules.specs.Message.{Request, get, set, timing, save, text, Reply, value, timingReply, textFragment, requests, replies, encode, decode, toDisplay, toHost}
 use Rattle.capabilities_rules.specs.Limits.{mostNodes, noParent}
@@ -11,6 +12,9 @@ use Rattle.capabilities_rules.specs.Grammar.{Node}
 use Rattle.capabilities_rules.specs.Nodes.{nodesOf}
 use Rattle.capabilities_rules.specs.Outcome.{refused, outcome}
 use Rattle.capabilities_rules.specs.declared.Reading.the-variants.{Accepted}
+use Rattle.settings.specs.Settings.{emptySettings, declareCode}
+use Rattle.settings.specs.declared.Declaration.{Declaration}
+use Rattle.profile_rules.specs.Profile.{profileOf, loadProfile}
 
 -- what an example says
 pub data Example : Type 0 where
@@ -22,6 +26,8 @@ pub data Example : Type 0 where
   accepted : List ℕ → (starts parents groups : List ℕ) → Example
   -- a capabilities string that is refused: the answer number, and its place
   refusedAt : List ℕ → (number place : ℕ) → Example
+  -- the profile of a display with this one code, and its bytes
+  profiled : Declaration → List ℕ → Example
 
 -- a message is built as its bytes, and its bytes are read as the message; a capabilities string is read with room for 512 nodes
 abbrev pub Holds : Example → Type 0
@@ -33,6 +39,9 @@ Holds (accepted s starts parents groups) =
     × (map (λ x. x .parent) (nodesOf s) ≡ parents)
     × (map (λ x. x .group) (nodesOf s) ≡ groups)
 Holds (refusedAt s number place) = outcome mostNodes s ≡ refused number place
+Holds (profiled d s) =
+    let one = declareCode emptySettings d .settings in
+    (profileOf one ≡ s) × (loadProfile one s ≡ record { settings = one; answer = done; position = record { 0 = length s } })
 
 abbrev pub All : List Example → Type 0
 All [] = Unit {0}
@@ -62,4 +71,6 @@ examples =
     ∷ accepted (0x28 ∷ 0x29 ∷ []) [] [] []
     -- (a(b)(c)): "13 at 5"
     ∷ refusedAt (0x28 ∷ 0x61 ∷ 0x28 ∷ 0x62 ∷ 0x29 ∷ 0x28 ∷ 0x63 ∷ 0x29 ∷ 0x29 ∷ []) wrongGrammar 5
+    -- "Sheet of code 10 at 50"
+    ∷ profiled (record { code = 0x10; readable = true; writable = true; kind = 0; continuous = true; maximum = 100; present = 50 }) (0x05 ∷ 0x00 ∷ 0x01 ∷ 0x00 ∷ 0x10 ∷ 0x32 ∷ 0x00 ∷ [])
     ∷ []

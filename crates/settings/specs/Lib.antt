@@ -1,3 +1,4 @@
 pub mod Settings
 pub mod Entries
 pub mod Statements
+pub mod Values

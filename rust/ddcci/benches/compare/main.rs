@@ -1,8 +1,12 @@
 //! Paneknoll's proved functions beside the oracle's, in one run: `cargo bench`. Each line is what is measured, Paneknoll, the oracle, and the ratio of the two.
+mod capabilities;
 mod measure;
 mod messages;
+mod transfers;
 
 fn main() {
     println!("{:<44} {:>13} {:>13}   ratio", "", "Paneknoll", "oracle");
     messages::run();
+    capabilities::run();
+    transfers::run();
 }

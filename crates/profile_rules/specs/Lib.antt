@@ -1,0 +1,3 @@
+pub mod Records
+pub mod Profile
+pub mod Statements

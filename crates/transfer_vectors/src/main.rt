@@ -1,0 +1,84 @@
+// Transfers over a simulated line: budgets of L and L + 1, fragments of 1, 31, 32 and mixed lengths, with and without noise, held to what demand 3 says of them.
+mod display;
+mod line;
+mod run;
+
+use message_rules::TextKind;
+
+// One line of output: what was run, how the transfer ended, and whether the buffer is as demand 3 says.
+fn report(name: &[u8], o: run::Ended) {
+    io::write_all(1, name);
+    io::write_all(1, b": ");
+    let state = o.state;
+    run::write_state(state);
+    io::write_all(1, b", offset ");
+    io::print_decimal(1, o.reached as u64);
+    io::write_all(1, b", counted ");
+    io::print_decimal(1, o.count as u64);
+    if o.right {
+        io::write_all(1, b", buffer right\n");
+    } else {
+        io::write_all(1, b", BUFFER WRONG\n");
+    }
+}
+
+// A perfect line: fragments of one byte need exactly L + 1 exchanges.
+fn budgets() {
+    report(
+        b"fragments of 1, budget L",
+        run::whole(TextKind::Table, 60, 60, 1, 0),
+    );
+    report(
+        b"fragments of 1, budget L + 1",
+        run::whole(TextKind::Table, 60, 61, 1, 0),
+    );
+    report(
+        b"empty text, budget 0",
+        run::whole(TextKind::Capabilities, 0, 0, 1, 0),
+    );
+    report(
+        b"empty text, budget 1",
+        run::whole(TextKind::Capabilities, 0, 1, 1, 0),
+    );
+}
+
+fn sizes() {
+    report(
+        b"fragments of 31",
+        run::whole(TextKind::Capabilities, 200, 300, 31, 0),
+    );
+    report(
+        b"fragments of 32",
+        run::whole(TextKind::Capabilities, 200, 300, 32, 0),
+    );
+    report(
+        b"fragments of mixed lengths",
+        run::whole(TextKind::Table, 200, 300, 0, 0),
+    );
+}
+
+// A line that spoils three replies in ten: 200 bytes and 300 exchanges leave room for 99 spoiled ones.
+fn noise() {
+    report(
+        b"noisy line, fragments of 31",
+        run::whole(TextKind::Capabilities, 200, 300, 31, 3),
+    );
+    report(
+        b"noisy line, fragments of 32",
+        run::whole(TextKind::Table, 200, 300, 32, 3),
+    );
+    report(
+        b"noisy line, fragments of mixed lengths",
+        run::whole(TextKind::Table, 200, 300, 0, 3),
+    );
+    report(
+        b"noisy line, buffer too small",
+        run::whole(TextKind::Table, 250, 300, 0, 3),
+    );
+}
+
+fn main() {
+    budgets();
+    sizes();
+    noise();
+}

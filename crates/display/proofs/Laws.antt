@@ -1,0 +1,87 @@
+-- What a builder leaves when the output is large enough, that no fragment is too long, and a table that was written in a part of its buffer.
+use mathlib.Core.Path.{_≡_, refl, sym, ap, ap₂, _∙_}
+use mathlib.Core.Bool.{Bool, true, false, cond, _&&_}
+use mathlib.Core.List.{List, [], _++_, append-nil}
+use Prim.Native.Nat.{ℕ, _+_, _-_, _≤_}
+use native.Mathlib.Omega.{arith}
+use lib.ListN.{length, take, drop, length-take, length-drop, drop-of-length-le}
+use lib.Seq.{take-all, take-length, drop-drop}
+use lib.Dec.{leb}
+use borrow.Author.Tests.{le-leb}
+use borrow.Rule.Slice.PartMut.{midOf, postOf, putMid, post-is}
+use Rattle.message_rules.specs.Answer.{wrongField}
+use Rattle.message_rules.specs.Limits.{outputRoom, mostFragment}
+use Rattle.message.specs.Output.{over, Builds}
+use Rattle.message.specs.declared.Built.{Built}
+use Rattle.message.specs.declared.Built.the-variants.{Done, Refused}
+use Rattle.display_rules.specs.Fragments.{lesser, nextCursor, foundBytes}
+use Rattle.display_rules.specs.Table.{written}
+use Rattle.message_rules.specs.declared.TextKind.{TextKind}
+use Rattle.display_rules.specs.declared.TextState.{TextState}
+use Rattle.display_rules.specs.declared.Found.the-variants.{Fragment}
+use Rattle.display_rules.proofs.Tests.{lesser-left, lesser-right}
+use Rattle.display.specs.Send.{builtLength, Sent}
+
+-- ---- builders
+
+-- a builder's answer where the output has its room
+pub record Answered (allowed : Bool) (s before after : List ℕ) (b : Built) : Type 0 where
+  pub answers : b ≡ cond allowed (Done (length s)) (Refused wrongField)
+  pub leaves : after ≡ cond allowed (over s before) before
+
+pub answered : {allowed : Bool} {s before after : List ℕ} {b : Built} → Builds allowed s before after b → outputRoom ≤ length before → Answered allowed s before after b
+answered {allowed} {s} {before} {after} {b} r h =
+    let e : leb outputRoom (length before) ≡ true = le-leb _ _ h in
+    record { answers = rw e at (r .answers); leaves = rw e at (r .leaves) }
+
+-- an allowed message is sent
+pub sent-of : {allowed : Bool} {s before after : List ℕ} {b : Built} → Builds allowed s before after b → outputRoom ≤ length before → allowed ≡ true
+    → (n : ℕ) → n ≡ builtLength b → Sent s before after n
+sent-of r h e n l =
+    let a = answered r h in
+    record { counted = l ∙ ap builtLength (rw e at (a .answers)); leaves = rw e at (a .leaves) }
+
+-- what each of the two answers shows
+pub built-done : {allowed : Bool} {s before after : List ℕ} {b : Built} → Builds allowed s before after b → outputRoom ≤ length before
+    → (n : ℕ) → b ≡ Done n → (allowed ≡ true) × Sent s before after n
+built-done {allowed} {s} {before} {after} {b} r h n e = go allowed (sym e ∙ answered r h .answers) (answered r h .leaves)
+  where
+    go : (t : Bool) → Done n ≡ cond t (Done (length s)) (Refused wrongField) → after ≡ cond t (over s before) before → (t ≡ true) × Sent s before after n
+    go true p q = (refl, record { counted = ap builtLength p; leaves = q })
+    go false p q = let z : _≡_ {A = ℕ} 0 1 = cc in absurd (omega arith)
+
+pub built-refused : {allowed : Bool} {s before after : List ℕ} {b : Built} → Builds allowed s before after b → outputRoom ≤ length before
+    → (k : ℕ) → b ≡ Refused k → (allowed ≡ false) × (k ≡ wrongField) × (after ≡ before)
+built-refused {allowed} {s} {before} {after} {b} r h k e = go allowed (sym e ∙ answered r h .answers) (answered r h .leaves)
+  where
+    go : (t : Bool) → Refused k ≡ cond t (Done (length s)) (Refused wrongField) → after ≡ cond t (over s before) before → (t ≡ false) × (k ≡ wrongField) × (after ≡ before)
+    go true p q = let z : _≡_ {A = ℕ} 0 1 = cc in absurd (omega arith)
+    go false p q = (refl, cc, q)
+
+-- ---- fragments
+
+pub fragment-admitted : (s : List ℕ) → length s ≤ mostFragment → (leb (length s) mostFragment && true) ≡ true
+fragment-admitted s h = rw (le-leb _ _ h)
+
+-- no more bytes than a fragment may have
+pub fragment-fits : (k : TextKind) (text table : List ℕ) (p : ℕ) (t : TextState) (q : ℕ) → length (foundBytes text table (Fragment k (nextCursor (lesser p mostFragment) t q))) ≤ mostFragment
+unfolding nextCursor
+fragment-fits k text table p t q =
+    simp length-take (omega (arith, lesser-right p mostFragment, lesser-left (lesser p mostFragment) (t .length - nextCursor (lesser p mostFragment) t q .offset .0)))
+
+-- ---- the table
+
+-- a copy into the part of the buffer from an offset on
+pub put-is : (at end : ℕ) (p s ys : List ℕ) → at + length s ≤ length p → end ≡ length p → ys ≡ take (length s) s ++ drop (length s) (midOf at (end - at) p)
+    → putMid at (end - at) p ys ≡ written p at s
+put-is at end p s ys h l f =
+    let whole : midOf at (end - at) p ≡ drop at p = take-all (end - at) (drop at p) (omega (arith, length-drop at p)) in
+    let none : postOf at (end - at) p ≡ [] = post-is at end p (omega arith) ∙ drop-of-length-le p {i = end} (omega arith) in
+    let part : ys ≡ s ++ drop (at + length s) p = f ∙ ap₂ (λ (x y : List ℕ). x ++ drop (length s) y) (take-length s) whole ∙ ap (λ (x : List ℕ). s ++ x) (drop-drop (length s) at p) in
+    ap₂ (λ (x y : List ℕ). take at p ++ (x ++ y)) part none ∙ ap (λ (x : List ℕ). take at p ++ x) (append-nil (s ++ drop (at + length s) p))
+
+-- ---- the data of a message
+
+-- the length of a part, from its start to its end
+pub part-length : (from n : ℕ) → from + n - from ≡ n
+part-length from n = omega arith

@@ -1,0 +1,156 @@
+-- `display::obey` meets its contract. Each arm of the match is the definition's case of what was read.
+use Rattle.display.proofs.Laws.{part-length}
+use Prim.Native.Nat.{_-_}
+use native.Mathlib.Omega.{arith}
+use borrow.Author.Needs.{needs}
+use Rattle.display.proofs.obey.Statement.{statement}
+use Rattle.display.proofs.obey.Tie as tie
+
+enum-known-request : tie.Need-enum-known-request
+enum-known-request c = search needs
+
+get-requires : tie.Need-get-requires
+get-requires c κs = search needs
+
+enum-known-request-2 : tie.Need-enum-known-request-2
+enum-known-request-2 c = search needs
+
+set-requires : tie.Need-set-requires
+set-requires c κs = search needs
+
+enum-told : tie.Need-enum-told
+enum-told c = search needs
+
+timing-requires : tie.Need-timing-requires
+timing-requires c κs = search needs
+
+enum-told-2 : tie.Need-enum-told-2
+enum-told-2 c = search needs
+
+save-requires : tie.Need-save-requires
+save-requires c κs = search needs
+
+enum-known-request-3 : tie.Need-enum-known-request-3
+enum-known-request-3 c = search needs
+
+read-requires : tie.Need-read-requires
+read-requires c κs = search needs
+
+enum-known-request-4 : tie.Need-enum-known-request-4
+enum-known-request-4 c = search needs
+
+table-read-requires : tie.Need-table-read-requires
+table-read-requires c κs = search needs
+
+enum-known-request-5 : tie.Need-enum-known-request-5
+enum-known-request-5 c = search needs
+
+add-data : tie.Need-add-data
+add-data c = omega (arith, rw (c .before .request5 .given .1) at (c .before .before .before .before .before .before .before .pre .2))
+
+sub-data : tie.Need-sub-data
+sub-data c = search needs
+
+part-data-start : tie.Need-part-data-start
+part-data-start c = search needs
+
+part-data-end : tie.Need-part-data-end
+part-data-end c = omega (arith, rw (c .before .request5 .given .1) at (c .before .before .before .before .before .before .before .pre .2))
+
+write-requires : tie.Need-write-requires
+write-requires c κs = search needs
+
+enum-known-request-6 : tie.Need-enum-known-request-6
+enum-known-request-6 c = search needs
+
+refuse-requires : tie.Need-refuse-requires
+refuse-requires c κs = search needs
+
+same-length : tie.Need-same-length
+same-length c = search needs
+
+returns : tie.Need-returns
+returns c = rw (c .before .before .before .before .before .request .given .1) (c .before .before .get .ensures _)
+
+returns-2 : tie.Need-returns-2
+returns-2 c = rw (c .before .before .request2 .given .1) (c .set .ensures _ _)
+
+same-length-2 : tie.Need-same-length-2
+same-length-2 c = search needs
+
+returns-3 : tie.Need-returns-3
+returns-3 c = rw (c .before .before .before .before .enum-told .given .1) (c .before .before .timing .ensures _)
+
+returns-4 : tie.Need-returns-4
+returns-4 c = rw (c .before .enum-told2 .given .1) (c .save .ensures _ _)
+
+same-length-3 : tie.Need-same-length-3
+same-length-3 c = search needs
+
+same-length-4 : tie.Need-same-length-4
+same-length-4 c = search needs
+
+returns-5 : tie.Need-returns-5
+returns-5 c = rw (c .before .before .before .before .before .before .request3 .given .1) (c .before .before .read .ensures)
+
+same-length-5 : tie.Need-same-length-5
+same-length-5 c = search needs
+
+same-length-6 : tie.Need-same-length-6
+same-length-6 c = search needs
+
+returns-6 : tie.Need-returns-6
+returns-6 c = rw (c .before .before .before .before .before .before .request4 .given .1) (c .before .before .table-read .ensures)
+
+same-length-7 : tie.Need-same-length-7
+same-length-7 c = search needs
+
+returns-7 : tie.Need-returns-7
+returns-7 c = rw (c .before .before .before .before .before .before .request5 .given .1) (rw part-length at (c .before .before .write .ensures (c .before .before .before .before .before .before .before .before .before .before .before .before .args .out .now)))
+
+same-length-8 : tie.Need-same-length-8
+same-length-8 c = search needs
+
+returns-8 : tie.Need-returns-8
+returns-8 c = rw (c .before .before .before .before .before .request6 .given .1) (c .before .before .refuse .ensures (c .before .before .before .before .before .before .before .before .before .before .before .args .text .now) _)
+
+pub obey-spec : {M : Type 1} → statement M
+obey-spec =
+    tie.close
+    (tie.spec
+    enum-known-request
+    get-requires
+    enum-known-request-2
+    set-requires
+    enum-told
+    timing-requires
+    enum-told-2
+    save-requires
+    enum-known-request-3
+    read-requires
+    enum-known-request-4
+    table-read-requires
+    enum-known-request-5
+    add-data
+    sub-data
+    part-data-start
+    part-data-end
+    write-requires
+    enum-known-request-6
+    refuse-requires
+    same-length
+    returns
+    returns-2
+    same-length-2
+    returns-3
+    returns-4
+    same-length-3
+    same-length-4
+    returns-5
+    same-length-5
+    same-length-6
+    returns-6
+    same-length-7
+    returns-7
+    same-length-8
+    returns-8)

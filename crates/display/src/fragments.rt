@@ -1,0 +1,109 @@
+// The fragments of the two texts: which one a read finds, and its bytes.
+ghost use mathlib.Core.Path.{_≡_};
+ghost use lib.ListN.{length, take, drop};
+ghost use Rattle.display_rules.specs.State.{textState, withCursor};
+ghost use Rattle.display_rules.specs.Fragments.{lesser, nextOffset, nextCursor, foundBytes};
+use display_rules::Display;
+use display_rules::Found;
+use display_rules::FragmentCursor;
+use display_rules::TextState;
+use message_rules::TextKind;
+use message_rules::TextOffset;
+
+pub(crate) fn lesser(a: u16, b: u16) -> u16
+    ensures { λ r. ⌜ r ≡ lesser a b ⌝ }
+{
+    if a < b { a } else { b }
+}
+
+// Where a read at the offset q goes.
+fn next_offset(c: FragmentCursor, q: TextOffset) -> TextOffset
+    ensures { λ r. ⌜ r .0 ≡ nextOffset c (q .0) ⌝ }
+{
+    let at = c.offset;
+    if q.0 == at.0 {
+        return q;
+    }
+    if q.0 as u32 == at.0 as u32 + c.length as u32 {
+        return q;
+    }
+    TextOffset(0)
+}
+
+// The fragment that a read at the offset q finds.
+pub(crate) fn next_cursor(size: u16, t: TextState, q: TextOffset) -> FragmentCursor
+    ensures { λ r. ⌜ r ≡ nextCursor size t (q .0) ⌝ }
+{
+    let cursor = t.cursor;
+    let at = next_offset(cursor, q);
+    if at.0 < t.length {
+        let length = lesser(size, t.length - at.0);
+        return FragmentCursor {
+            offset: at,
+            length: length,
+        };
+    }
+    FragmentCursor {
+        offset: at,
+        length: 0,
+    }
+}
+
+// The n bytes of a slice from a number on, or those of them that there are.
+fn part<'a>(s: &'a [u8], from: usize, n: usize) -> &'a [u8]
+    ensures { λ r. ⌜ now r ≡ take n (drop from (now (s .entry))) ⌝ }
+{
+    if s.len() <= from {
+        return &s[..0];
+    }
+    if n < s.len() - from {
+        return &s[from..from + n];
+    }
+    &s[from..]
+}
+
+// The fragment that a step found, as a part of whichever of the two lent texts was asked for. The table is lent as its buffer.
+pub fn handed_back<'a>(text: &'a [u8], table: &'a [u8], found: Found) -> &'a [u8]
+    ensures { λ r. ⌜ now r ≡ foundBytes (now (text .entry)) (now (table .entry)) found ⌝ }
+{
+    match found {
+        Found::Nothing => &text[..0],
+        Found::Fragment(kind, cursor) => {
+            let offset = cursor.offset;
+            let from = offset.0 as usize;
+            let n = cursor.length as usize;
+            match kind {
+                TextKind::Capabilities => part(text, from, n),
+                TextKind::Table => part(table, from, n),
+            }
+        }
+    }
+}
+
+pub(crate) fn text_state(kind: TextKind, d: Display) -> TextState
+    ensures { λ r. ⌜ r ≡ textState kind d ⌝ }
+{
+    match kind {
+        TextKind::Capabilities => d.capabilities,
+        TextKind::Table => d.table,
+    }
+}
+
+pub(crate) fn with_cursor(kind: TextKind, mut d: Display, c: FragmentCursor) -> Display
+    ensures { λ r. ⌜ r ≡ withCursor kind d c ⌝ }
+{
+    match kind {
+        TextKind::Capabilities => {
+            let mut t = d.capabilities;
+            t.cursor = c;
+            d.capabilities = t;
+            d
+        }
+        TextKind::Table => {
+            let mut t = d.table;
+            t.cursor = c;
+            d.table = t;
+            d
+        }
+    }
+}

@@ -1,0 +1,165 @@
+// A display: its start, declaring, and one step for each message, proved equal to display_rules' definitions.
+pub mod fragments;
+mod operation;
+mod send;
+mod table;
+
+ghost use mathlib.Core.Path.{_≡_};
+ghost use Prim.Native.Nat.{_≤_};
+ghost use lib.ListN.{length};
+ghost use Rattle.message.specs.Outcome.{requestIn, RequestInside};
+ghost use Rattle.message_rules.specs.Limits.{outputRoom};
+ghost use Rattle.display_rules.specs.Limits.{tableRoom};
+ghost use Rattle.display_rules.specs.State.{fresh, emptyDisplay, startAnswer, start, declare};
+ghost use Rattle.display_rules.specs.Step.{lentSizes, turnOf, outcome, step, left};
+use display_rules::Changed;
+use display_rules::Display;
+use display_rules::Found;
+use display_rules::Stepped;
+use display_rules::limits::TABLE_ROOM;
+use message::RequestRead;
+use message::request::read_request;
+use message_rules::TO_DISPLAY;
+use message_rules::TextKind;
+use message_rules::answer;
+use message_rules::limits::LONGEST_TEXT;
+use message_rules::limits::MOST_FRAGMENT;
+use message_rules::limits::OUTPUT_ROOM;
+use settings::Declaration;
+use settings::Settings;
+use settings::Timing;
+
+// ---- the start and declaring
+
+// A display with an empty table, and nothing sent.
+fn fresh(settings: Settings, text: u16, size: u16) -> Display
+    ensures { λ r. ⌜ r ≡ fresh settings text size ⌝ }
+{
+    Display {
+        settings: settings,
+        capabilities: table::unsent(text),
+        table: table::unsent(0),
+        size: size,
+    }
+}
+
+// The display of a refused start.
+pub fn empty() -> Display
+    ensures { λ r. ⌜ r ≡ emptyDisplay ⌝ }
+{
+    fresh(settings::empty(), 0, 1)
+}
+
+// The answer to a start: the timing is judged first, then the text's length, then the fragment size.
+fn start_answer(status: u8, text: usize, size: u16) -> u8
+    ensures { λ r. ⌜ r ≡ startAnswer status text size ⌝ }
+{
+    if status / 4 % 16 != 0 {
+        return answer::NOT_DECLARABLE;
+    }
+    if LONGEST_TEXT < text {
+        return answer::TEXT_TOO_LONG;
+    }
+    if size == 0 {
+        return answer::NOT_DECLARABLE;
+    }
+    if MOST_FRAGMENT < size as usize {
+        return answer::NOT_DECLARABLE;
+    }
+    answer::DONE
+}
+
+// A display with a timing, a capabilities string and a fragment size, and no code declared yet.
+pub fn start(timing: Timing, text: &[u8], size: u16) -> Changed
+    ensures { λ r. ⌜ r ≡ start timing (length (now (text .entry))) size ⌝ }
+{
+    let answer = start_answer(timing.status, text.len(), size);
+    if answer != answer::DONE {
+        let display = empty();
+        return Changed {
+            display: display,
+            answer: answer,
+        };
+    }
+    let begun = settings::start(timing);
+    let settings = begun.settings;
+    let display = fresh(settings, text.len() as u16, size);
+    Changed {
+        display: display,
+        answer: answer,
+    }
+}
+
+// A code declared, or 18 and the same display.
+pub fn declare(mut d: Display, declaration: Declaration) -> Changed
+    ensures { λ r. ⌜ r ≡ declare d declaration ⌝ }
+{
+    let settings = d.settings;
+    let change = settings::declare(settings, declaration);
+    let after = change.settings;
+    d.settings = after;
+    Changed {
+        display: d,
+        answer: change.answer,
+    }
+}
+
+// ---- the step
+
+// Whether the output, the table's buffer and the capabilities string have the sizes that a step asks for.
+fn lent_well(kept: u16, text: usize, table: usize, out: usize) -> bool
+    ensures { λ r. ⌜ r ≡ lentSizes kept text table out ⌝ }
+{
+    if out < OUTPUT_ROOM {
+        return false;
+    }
+    if table != TABLE_ROOM {
+        return false;
+    }
+    text == kept as usize
+}
+
+// What was read of the message, with buffers of the right sizes.
+fn obey(
+    d: Display,
+    text: &[u8],
+    table: &mut [u8],
+    request: RequestRead,
+    message: &[u8],
+    out: &mut [u8],
+) -> Stepped
+    requires { ⌜ (outputRoom ≤ length (now out)) × (length (now table) ≡ tableRoom) × RequestInside (now message) request ⌝ }
+    ensures { λ r. ⌜ left r (now (table .exit)) (now (out .exit)) ≡ outcome (turnOf d (now (text .entry)) (now (table .entry)) (requestIn (now (message .entry)) request)) (now (out .entry)) ⌝ }
+{
+    match request {
+        RequestRead::Get(code) => operation::get(d, code, out),
+        RequestRead::Set(code, value) => operation::set(d, code, value),
+        RequestRead::Timing => operation::timing(d, out),
+        RequestRead::Save => operation::save(d),
+        RequestRead::Text(q) => operation::read(TextKind::Capabilities, d, text, table, q, out),
+        RequestRead::TableRead(code, q) => operation::table_read(d, text, table, code, q, out),
+        RequestRead::TableWrite(code, at, position, n) => {
+            let from = position.0;
+            let data = &message[from..from + n];
+            table::write(d, table, code, at, data)
+        }
+        RequestRead::Refused(answer) => operation::refuse(d, answer, out),
+    }
+}
+
+// One message to the display.
+pub fn step(d: Display, text: &[u8], table: &mut [u8], message: &[u8], out: &mut [u8]) -> Stepped
+    ensures { λ r. ⌜ left r (now (table .exit)) (now (out .exit)) ≡ step d (now (text .entry)) (now (table .entry)) (now (message .entry)) (now (out .entry)) ⌝ }
+{
+    let kept = d.capabilities.length;
+    if lent_well(kept, text.len(), table.len(), out.len()) {
+        let request = read_request(TO_DISPLAY, message);
+        return obey(d, text, table, request, message, out);
+    }
+    Stepped {
+        display: d,
+        answer: answer::WRONG_SIZE,
+        length: 0,
+        found: Found::Nothing,
+    }
+}

@@ -1,0 +1,169 @@
+-- A read answers 0, moves the cursor by the paper's four sentences, and sends the bytes of the whole text from there; and the timing is always sent.
+use mathlib.Core.Path.{_≡_, refl, sym, ap, _∙_}
+use mathlib.Core.Logic.{_⊎_, ⊎-elim}
+use mathlib.Core.Bool.{Bool, true, false, cond, _||_}
+use mathlib.Core.List.{List, [], _∷_, append-nil}
+use Prim.Native.Nat.{ℕ, zero, suc, _+_, _-_, _<_}
+use native.Mathlib.Omega.{arith}
+use lib.ListN.{length, take, drop}
+use lib.Seq.{length-take-le, take-take, take-append-seam, drop-append-seam, take-nil}
+use lib.Dec.{eqb}
+use borrow.Author.Tests.{eq-eqb, ne-eqb}
+use Rattle.checksum.specs.Bytes as bytes
+use Rattle.message_rules.specs.Body as body
+use Rattle.message_rules.specs.Message.{Request, requests, decode, encode, text, timing, Valid, toDisplay}
+use Rattle.message_rules.specs.Read.{ok}
+use Rattle.message_rules.proofs.RoundTrip.{requests-round}
+use Rattle.message_rules.specs.Message.{tableCode}
+use Rattle.display_rules.specs.State.{cursorAt, textState, cursorOf, withCursor}
+use Rattle.display_rules.specs.Turn.{bytesOf, timingTurn}
+use Rattle.display_rules.specs.Fragments.{lesser, nextOffset, nextCursor, fragmentSize, fragmentAt, foundBytes, fragmentReply, readTurn, tableReadTurn}
+use Rattle.display_rules.specs.Step.{lentWell, turn, outcome, step}
+use Rattle.display_rules.specs.Statements.{Sound, Placed, whole, asksFor, Reads, ReadsFollow, TimingSent}
+use Rattle.message_rules.specs.declared.TextKind.{TextKind}
+use Rattle.message_rules.specs.declared.TextKind.the-variants.{Capabilities, Table}
+use Rattle.display_rules.specs.declared.FragmentCursor.{FragmentCursor}
+use Rattle.display_rules.specs.declared.TextState.{TextState}
+use Rattle.display_rules.specs.declared.Display.{Display}
+use Rattle.display_rules.specs.declared.Found.the-variants.{Fragment}
+use Rattle.display_rules.proofs.Tests.{Lent, lent-sizes, lesser-right}
+use Rattle.display_rules.proofs.Sound.{size-is, made-is-sound}
+
+-- ---- where a read goes
+
+module _ (c : FragmentCursor) (q : ℕ) where
+  next-zero : q ≡ 0 → nextOffset c q ≡ 0
+  unfolding nextOffset
+  next-zero h = go (eqb q (c .offset .0) || eqb q (c .offset .0 + c .length))
+    where
+      go : (t : Bool) → cond t q 0 ≡ 0
+      go true = h
+      go false = refl
+
+  next-again : q ≡ c .offset .0 → nextOffset c q ≡ q
+  unfolding nextOffset
+  next-again h = rw (eq-eqb _ _ h)
+
+  next-moves : q ≡ c .offset .0 + c .length → nextOffset c q ≡ q
+  unfolding nextOffset
+  next-moves h = rw (eq-eqb q (c .offset .0 + c .length) h) (go (eqb q (c .offset .0)))
+    where
+      go : (t : Bool) → cond (t || true) q 0 ≡ q
+      go true = refl
+      go false = refl
+
+  next-other : (q ≡ c .offset .0 → ⊥) → (q ≡ c .offset .0 + c .length → ⊥) → nextOffset c q ≡ 0
+  unfolding nextOffset
+  next-other f g = rw (ne-eqb _ _ f, ne-eqb _ _ g)
+
+-- "send that piece again": the length found is the one kept
+again-is : (p : ℕ) (t : TextState) (q : ℕ) → Placed p t → (q ≡ 0 → ⊥) → q ≡ t .cursor .offset .0 → nextCursor p t q ≡ t .cursor
+unfolding nextCursor
+again-is p t q placed nz h =
+    let e : nextOffset (t .cursor) q ≡ t .cursor .offset .0 = next-again (t .cursor) q h ∙ h in
+    let l : lesser p (t .length - t .cursor .offset .0) ≡ t .cursor .length = ⊎-elim (λ s. absurd (nz (h ∙ ap (λ (c : FragmentCursor). c .offset .0) s))) (λ s. sym s) placed in
+    rw e (ap (cursorAt (t .cursor .offset .0)) l)
+
+-- ---- the bytes sent are those of the whole text
+
+drop-take : (i n : ℕ) (l : List ℕ) → drop i (take n l) ≡ take (n - i) (drop i l)
+drop-take zero n l = let e : n ≡ n - 0 = omega arith in ap (λ (k : ℕ). take k l) e
+drop-take (suc i) zero l = let e : 0 ≡ 0 - suc i = omega arith in ap (λ (k : ℕ). take k (drop (suc i) l)) e
+drop-take (suc i) (suc n) [] = sym (take-nil (suc n - suc i))
+drop-take (suc i) (suc n) (x ∷ l) = let e : n - i ≡ suc n - suc i = omega arith in drop-take i n l ∙ ap (λ (k : ℕ). take k (drop i l)) e
+
+-- a fragment within the first n bytes is the same part of those
+within-front : (p : ℕ) (t : TextState) (q : ℕ) (l : List ℕ) → fragmentAt l (nextCursor p t q) ≡ fragmentAt (take (t .length) l) (nextCursor p t q)
+unfolding nextCursor
+within-front p t q l =
+    let o : ℕ = nextOffset (t .cursor) q in
+    let m : ℕ = lesser p (t .length - o) in
+    sym (ap (take m) (drop-take o (t .length) l) ∙ take-take m (t .length - o) (drop o l) (lesser-right p (t .length - o)))
+
+same-part : (k : TextKind) (d : Display) (lent table : List ℕ) (q : ℕ) (c : FragmentCursor) → c ≡ nextCursor (fragmentSize d) (textState k d) q
+    → foundBytes lent table (Fragment k c) ≡ fragmentAt (whole k d lent table) c
+same-part Capabilities d lent table q c e = refl
+same-part Table d lent table q c e = rw e (within-front (fragmentSize d) (d .table) q table)
+
+-- ---- a read
+
+whole-length : (k : TextKind) (d : Display) (lent table out : List ℕ) → Sound d → lentWell d (length lent) (length table) (length out) ≡ true → length (whole k d lent table) ≡ textState k d .length
+whole-length Capabilities d lent table out z w = lent-sizes d (length lent) (length table) (length out) w .text
+whole-length Table d lent table out z w =
+    let e : Lent d (length lent) (length table) (length out) = lent-sizes d (length lent) (length table) (length out) w in
+    length-take-le (d .table .length) table (omega (arith, e .table, z .room))
+
+placed-of : (k : TextKind) (d : Display) → Sound d → Placed (d .size) (textState k d)
+placed-of Capabilities d z = z .capabilities
+placed-of Table d z = z .table
+
+cursor-set : (k : TextKind) (d : Display) (c : FragmentCursor) → cursorOf k (withCursor k d c) ≡ c
+cursor-set Capabilities d c = refl
+cursor-set Table d c = refl
+
+whole-kept : (k : TextKind) (d : Display) (lent table : List ℕ) (c : FragmentCursor) → whole k (withCursor k d c) lent table ≡ whole k d lent table
+whole-kept Capabilities d lent table c = refl
+whole-kept Table d lent table c = refl
+
+offset-is : (p : ℕ) (t : TextState) (q : ℕ) → nextCursor p t q .offset .0 ≡ nextOffset (t .cursor) q
+unfolding nextCursor
+offset-is p t q = refl
+
+length-is : (f p : ℕ) (t : TextState) (q : ℕ) → f ≡ p → nextCursor f t q .length ≡ lesser p (t .length - nextCursor f t q .offset .0)
+unfolding nextCursor
+length-is f p t q h = rw h
+
+of-read : (k : TextKind) (d : Display) (lent table out : List ℕ) (q : ℕ) → Sound d → lentWell d (length lent) (length table) (length out) ≡ true
+    → Reads k d lent table out q (outcome (readTurn k d lent table q) out)
+unfolding readTurn
+of-read k d lent table out q z w =
+    let t : TextState = textState k d in
+    let c : FragmentCursor = nextCursor (fragmentSize d) t q in
+    let e : cursorOf k (withCursor k d c) ≡ c = cursor-set k d c in
+    let o : c .offset .0 ≡ nextOffset (t .cursor) q = offset-is (fragmentSize d) t q in
+    let same : foundBytes lent table (Fragment k c) ≡ fragmentAt (whole k d lent table) c = same-part k d lent table q c refl in
+    let r : List ℕ = bytesOf (fragmentReply k c (fragmentAt (whole k d lent table) c)) in
+    record {
+      answer = refl;
+      zero = λ h. rw e (o ∙ next-zero (t .cursor) q h);
+      again = λ nz h. e ∙ ap (λ (p : ℕ). nextCursor p t q) (size-is d z) ∙ again-is (d .size) t q (placed-of k d z) nz h;
+      next = λ h. rw e (o ∙ next-moves (t .cursor) q h);
+      other = λ f g. rw e (o ∙ next-other (t .cursor) q f g);
+      size = rw (e, whole-length k d lent table out z w) (length-is (fragmentSize d) (d .size) t q (size-is d z));
+      sent = rw (e, same) (take-append-seam r (drop (length r) out));
+      rest = drop-append-seam (bytesOf (fragmentReply k c (foundBytes lent table (Fragment k c)))) _;
+      handed = rw e same;
+      kept = whole-kept k d lent table c;
+    }
+
+-- ---- the request is read
+
+word-valid : {q : ℕ} → q < 65536 → body.Words (q ∷ [])
+word-valid h = body.more h body.none
+
+pub valid : (k : TextKind) (q : ℕ) → q < 65536 → Valid requests (asksFor k q)
+valid Capabilities q h = record { bytesCount = refl; wordsCount = refl; restCount = omega arith; bytesFit = bytes.none; wordsFit = word-valid h; restFit = bytes.none; ruled = refl }
+valid Table q h =
+    record { bytesCount = refl; wordsCount = refl; restCount = omega arith; bytesFit = bytes.more {b = tableCode} (omega arith) bytes.none; wordsFit = word-valid h; restFit = bytes.none; ruled = refl }
+
+timing-valid : Valid requests timing
+timing-valid = record { bytesCount = refl; wordsCount = refl; restCount = omega arith; bytesFit = bytes.none; wordsFit = body.none; restFit = bytes.none; ruled = refl }
+
+asked : (k : TextKind) (d : Display) (lent table message out : List ℕ) (q : ℕ) → lentWell d (length lent) (length table) (length out) ≡ true
+    → decode requests toDisplay message ≡ ok (asksFor k q) → step d lent table message out ≡ outcome (readTurn k d lent table q) out
+unfolding step turn tableReadTurn
+asked Capabilities d lent table message out q w r = rw (w, r)
+asked Table d lent table message out q w r = rw (w, r)
+
+pub read-back : (m : Request) → Valid requests m → decode requests toDisplay (encode requests toDisplay m) ≡ ok m
+read-back m v = rw append-nil at (requests-round .there toDisplay m [] refl v)
+
+pub reads-follow : ReadsFollow step
+reads-follow k d lent table out q m w h =
+    rw (asked k d lent table (encode requests toDisplay (asksFor k q)) out q w (read-back (asksFor k q) (valid k q h)))
+    (of-read k d lent table out q (made-is-sound d m) w)
+
+pub timing-sent : TimingSent step
+unfolding step turn timingTurn
+timing-sent d lent table out m w =
+    rw (w, read-back timing timing-valid, made-is-sound d m .settings .timing) (refl, refl)

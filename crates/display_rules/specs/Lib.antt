@@ -1,0 +1,7 @@
+pub mod Limits
+pub mod State
+pub mod Turn
+pub mod Fragments
+pub mod Table
+pub mod Step
+pub mod Statements

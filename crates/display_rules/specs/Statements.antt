@@ -1,0 +1,185 @@
+-- What is claimed of a display. A theorem over steps takes the rule for steps as a parameter: proofs/ proves it of Step.antt's, and refutes it of wrong ones.
+use Prim.Native.Nat.{ℕ, _+_, _-_, _≤_, _<_}
+use mathlib.Core.Path.{_≡_}
+use mathlib.Core.Logic.{_⊎_}
+use mathlib.Core.Bool.{Bool, true, false, cond, _&&_, _||_}
+use mathlib.Core.List.{List, [], _∷_}
+use lib.ListN.{length, take, drop}
+use lib.Dec.{eqb}
+use Rattle.checksum.specs.Bytes.{Bytes}
+use Rattle.codes.specs.Codes.{allCodes, howMany, countOf}
+use Rattle.message_rules.specs.Answer.{done, unknownCommand, codeNotAllowed}
+use Rattle.message_rules.specs.Limits.{mostFragment}
+use Rattle.message_rules.specs.Message.{Request, get, set, timing, save, text, tableRead, tableWrite, requests, encode, decode, toDisplay}
+use Rattle.message_rules.specs.Read.{Read, ok, refused}
+use Rattle.message.specs.Output.{over}
+use Rattle.settings.specs.Entries as entries
+use Rattle.message_rules.specs.Message.{tableCode}
+use Rattle.settings.specs.declared.Declaration.{Declaration}
+use Rattle.settings.specs.declared.Timing.{Timing}
+use Rattle.message_rules.specs.Limits.{longestText}
+use Rattle.display_rules.specs.Limits.{tableRoom}
+use Rattle.display_rules.specs.State.{startingCursor, cursorOf, start, declare}
+use Rattle.display_rules.specs.Turn.{bytesOf, timingOf}
+use Rattle.display_rules.specs.Fragments.{lesser, fragmentAt, foundBytes, fragmentReply}
+use Rattle.display_rules.specs.Table.{written}
+use Rattle.display_rules.specs.Step.{Outcome, lentWell}
+use Rattle.message_rules.specs.declared.TextKind.{TextKind}
+use Rattle.message_rules.specs.declared.TextKind.the-variants.{Capabilities, Table}
+use Rattle.display_rules.specs.declared.TextState.{TextState}
+use Rattle.display_rules.specs.declared.Display.{Display}
+use Rattle.display_rules.specs.declared.Found.the-variants.{Nothing}
+
+-- a rule for steps: that of Step.antt, or a wrong one
+abbrev pub StepRule : Type 0
+StepRule = Display → (lent table message out : List ℕ) → Outcome
+
+-- ---- a refusal leaves what the table of answers says
+
+abbrev pub isTableRead : Read Request → Bool
+isTableRead (ok (get c)) = false
+isTableRead (ok (set c v)) = false
+isTableRead (ok timing) = false
+isTableRead (ok save) = false
+isTableRead (ok (text q)) = false
+isTableRead (ok (tableRead c q)) = true
+isTableRead (ok (tableWrite c q s)) = false
+isTableRead (refused k) = false
+
+-- 6: "null message in the output"; 8: "Table read: null message"
+abbrev pub nullDue : Read Request → (answer : ℕ) → Bool
+nullDue r k = eqb k unknownCommand || (isTableRead r && eqb k codeNotAllowed)
+
+-- "the three bytes 6E 80 BE"
+abbrev pub nullBytes : List ℕ
+nullBytes = 0x6E ∷ 0x80 ∷ 0xBE ∷ []
+
+-- no setting, saved value, table byte, table length or cursor is changed, and the output only where the null message is due
+pub record NothingChanged (d : Display) (t b : List ℕ) (r : Read Request) (o : Outcome) : Type 0 where
+  pub display : o .display ≡ d
+  pub table : o .table ≡ t
+  pub found : o .found ≡ Nothing
+  pub length : o .length ≡ cond (nullDue r (o .answer)) 3 0
+  pub out : o .out ≡ cond (nullDue r (o .answer)) (over nullBytes b) b
+
+abbrev pub RefusalsChangeNothing : StepRule → Type 0
+RefusalsChangeNothing step = (d : Display) (lent table message out : List ℕ) → (step d lent table message out .answer ≡ done → ⊥)
+    → NothingChanged d table out (decode requests toDisplay message) (step d lent table message out)
+
+-- ---- displays that calls have made
+
+-- by a start, refused or not, then declaring and steps, whatever was lent and whatever bytes the messages were
+pub data Made (step : StepRule) : Display → Type 0 where
+  started : (t : Timing) (n p : ℕ) → Made step (start t n p .display)
+  declared : {d : Display} → Made step d → (e : Declaration) → e .code < allCodes → Made step (declare d e .display)
+  stepped : {d : Display} → Made step d → (lent table message out : List ℕ) → Bytes message → Made step (step d lent table message out .display)
+
+-- a text of which nothing was sent, or the last fragment had "the next min(piece size, bytes left) bytes"
+abbrev pub Placed : (size : ℕ) → TextState → Type 0
+Placed p t = (t .cursor ≡ startingCursor) ⊎ (t .cursor .length ≡ lesser p (t .length - t .cursor .offset .0))
+
+pub record Sound (d : Display) : Type 0 where
+  pub settings : entries.Sound (d .settings)
+  pub low : 1 ≤ d .size
+  pub high : d .size ≤ mostFragment
+  pub text : d .capabilities .length ≤ longestText
+  pub room : d .table .length ≤ tableRoom
+  pub capabilities : Placed (d .size) (d .capabilities)
+  pub table : Placed (d .size) (d .table)
+
+abbrev pub MadeIsSound : StepRule → Type 0
+MadeIsSound step = (d : Display) → Made step d → Sound d
+
+-- ---- reading a text
+
+-- a whole text: the capabilities string as it is lent, or the first bytes of the table's buffer
+abbrev pub whole : TextKind → Display → (lent table : List ℕ) → List ℕ
+whole Capabilities d lent table = lent
+whole Table d lent table = take (d .table .length) table
+
+-- the request for a fragment at q
+abbrev pub asksFor : TextKind → ℕ → Request
+asksFor Capabilities q = text q
+asksFor Table q = tableRead tableCode q
+
+-- The paper's sentences on a read at the offset q, one a field.
+pub record Reads (k : TextKind) (d : Display) (lent table out : List ℕ) (q : ℕ) (o : Outcome) : Type 0 where
+  pub answer : o .answer ≡ done
+  -- "Offset 0: the place's offset is 0."
+  pub zero : q ≡ 0 → cursorOf k (o .display) .offset .0 ≡ 0
+  -- "Equal to the place's offset: send that piece again."
+  pub again : (q ≡ 0 → ⊥) → q ≡ cursorOf k d .offset .0 → cursorOf k (o .display) ≡ cursorOf k d
+  -- "Equal to offset + length: move there."
+  pub next : q ≡ cursorOf k d .offset .0 + cursorOf k d .length → cursorOf k (o .display) .offset .0 ≡ q
+  -- "Otherwise go to 0."
+  pub other : (q ≡ cursorOf k d .offset .0 → ⊥) → (q ≡ cursorOf k d .offset .0 + cursorOf k d .length → ⊥) → cursorOf k (o .display) .offset .0 ≡ 0
+  -- "The piece is the next min(piece size, bytes left) bytes; at the end it has none."
+  pub size : cursorOf k (o .display) .length ≡ lesser (d .size) (length (whole k d lent table) - cursorOf k (o .display) .offset .0)
+  -- "The reply carries the place's new offset" and the bytes from there
+  pub sent : take (o .length) (o .out) ≡ bytesOf (fragmentReply k (cursorOf k (o .display)) (fragmentAt (whole k d lent table) (cursorOf k (o .display))))
+  pub rest : drop (o .length) (o .out) ≡ drop (o .length) out
+  -- "The piece found is handed back as a part of whichever of the two lent texts was asked for."
+  pub handed : foundBytes lent (o .table) (o .found) ≡ fragmentAt (whole k d lent table) (cursorOf k (o .display))
+  -- the text is as it was
+  pub kept : whole k (o .display) lent (o .table) ≡ whole k d lent table
+
+abbrev pub ReadsFollow : StepRule → Type 0
+ReadsFollow step = (k : TextKind) (d : Display) (lent table out : List ℕ) (q : ℕ)
+    → Made step d → lentWell d (length lent) (length table) (length out) ≡ true → q < 65536
+    → Reads k d lent table out q (step d lent table (encode requests toDisplay (asksFor k q)) out)
+
+-- the messages that move the cursor of a text or change it
+abbrev pub touches : TextKind → Read Request → Bool
+touches k (ok (get c)) = false
+touches k (ok (set c v)) = false
+touches k (ok timing) = false
+touches k (ok save) = false
+touches Capabilities (ok (text q)) = true
+touches Table (ok (text q)) = false
+touches Capabilities (ok (tableRead c q)) = false
+touches Table (ok (tableRead c q)) = true
+touches Capabilities (ok (tableWrite c at s)) = false
+touches Table (ok (tableWrite c at s)) = true
+touches k (refused n) = false
+
+-- all others leave it, and its cursor, alone
+abbrev pub OthersKeep : StepRule → Type 0
+OthersKeep step = (k : TextKind) (d : Display) (lent table message out : List ℕ) → touches k (decode requests toDisplay message) ≡ false
+    → (cursorOf k (step d lent table message out .display) ≡ cursorOf k d)
+    × (whole k (step d lent table message out .display) lent (step d lent table message out .table) ≡ whole k d lent table)
+
+-- ---- writing the table
+
+-- at offset 0 the table is the data; above 0 the data stand at the offset, and what was before and behind them stays
+abbrev pub tableAfter : (table : List ℕ) (at : ℕ) (s : List ℕ) → List ℕ
+tableAfter table at s = cond (eqb at 0) s (written table at s)
+
+-- every write is accepted that none of the refusals names, and the next read starts anew
+abbrev pub WritesGoIn : StepRule → Type 0
+WritesGoIn step = (d : Display) (lent table message out : List ℕ) (at : ℕ) (s : List ℕ)
+    → Made step d → lentWell d (length lent) (length table) (length out) ≡ true → decode requests toDisplay message ≡ ok (tableWrite tableCode at s)
+    → at ≤ d .table .length → at + length s ≤ tableRoom
+    → (step d lent table message out .answer ≡ done)
+    × (whole Table (step d lent table message out .display) lent (step d lent table message out .table) ≡ tableAfter (whole Table d lent table) at s)
+    × (cursorOf Table (step d lent table message out .display) ≡ startingCursor)
+
+-- ---- the timing is always sent
+
+abbrev pub TimingSent : StepRule → Type 0
+TimingSent step = (d : Display) (lent table out : List ℕ) → Made step d → lentWell d (length lent) (length table) (length out) ≡ true
+    → (step d lent table (encode requests toDisplay timing) out .answer ≡ done)
+    × (step d lent table (encode requests toDisplay timing) out .out ≡ over (bytesOf (timingOf (d .settings .timing))) out)
+
+-- ---- the number declared
+
+-- the count of the set is the number of codes that are declared
+abbrev pub NumberDeclared : Type 0
+NumberDeclared = (d : Display) → countOf (d .settings .declared) ≡ howMany (λ (c : ℕ). entries.entryOf (d .settings) c .declared) allCodes
+
+-- an accepted declaration adds one to it, and a refused one and a step add none
+abbrev pub DeclaringAddsOne : StepRule → Type 0
+DeclaringAddsOne step = (d : Display) (e : Declaration) → Made step d → e .code < allCodes
+    → countOf (declare d e .display .settings .declared) ≡ countOf (d .settings .declared) + cond (eqb (declare d e .answer) done) 1 0
+
+abbrev pub StepsDeclareNone : StepRule → Type 0
+StepsDeclareNone step = (d : Display) (lent table message out : List ℕ) → step d lent table message out .display .settings .declared ≡ d .settings .declared

@@ -1,10 +1,19 @@
 // Damaged variants of a message: each byte changed to each other value, each shorter slice, and a longer one.
-use crate::line::answer;
 use crate::number;
 use crate::output;
+use crate::reply;
+use crate::request;
 use crate::tally;
 use crate::tally::Tally;
 use message_rules::Direction;
+
+// The answer number of reading a message that goes this way.
+pub(crate) fn answer(direction: Direction, s: &[u8]) -> u8 {
+    match direction {
+        Direction::Request => request::answer(s),
+        Direction::Reply => reply::answer(s),
+    }
+}
 
 // A request is exactly as long as its length byte says, so that any other length byte is 4; no other change keeps the checksum.
 fn request_refusal(i: usize) -> u8 {

@@ -1,12 +1,9 @@
 // Runs the message examples of the papers and every message that the sources show, and writes one line a group.
 mod captures;
 mod damage;
-mod layout;
-mod line;
 mod number;
 mod output;
 mod readings;
-mod records;
 mod reply;
 mod request;
 mod room;
@@ -16,7 +13,6 @@ mod tally;
 mod worked;
 
 use message_rules::Direction;
-use records::Test;
 use tally::Tally;
 
 const STANDARD_OUTPUT: i32 = 1;
@@ -53,51 +49,35 @@ fn verdict(t: Tally) {
     write(b" vectors fail\n");
 }
 
-fn source_001() -> Tally {
-    let requests = captures::requests_001(Test::Exact);
-    let a = report(b"source 001, requests", requests, tally::none());
-    let b = report(
-        b"source 001, replies",
-        captures::replies_001(Test::Exact),
-        a,
-    );
-    report(b"source 001, settings", settings::all(), b)
-}
-
-fn source_003(before: Tally) -> Tally {
-    let a = report(
-        b"source 003, requests",
-        captures::requests_003(Test::Exact),
-        before,
-    );
-    report(
-        b"source 003, replies",
-        captures::replies_003(Test::Exact),
-        a,
-    )
-}
-
-// The worked messages, and the damaged variants of these and of all that the sources show.
-fn worked_and_damaged(before: Tally) -> Tally {
-    let a = report(b"worked out from layouts", worked::all(), before);
-    let damaged = captures::all(Test::Damaged).join(worked::messages(Test::Damaged));
-    report(b"damaged variants", damaged, a)
-}
-
-fn tables(before: Tally) -> Tally {
-    let requests = table::all(Direction::Request);
-    let a = report(b"document 01, table of requests", requests, before);
-    report(
-        b"document 01, table of replies",
-        table::all(Direction::Reply),
-        a,
-    )
+// The groups of captured and worked messages, and their damaged variants.
+fn messages() -> Tally {
+    let a = captures::requests_001(tally::no_score());
+    let b = captures::replies_001(tally::no_score());
+    let c = captures::requests_003(tally::no_score());
+    let d = captures::replies_003(tally::no_score());
+    let e = worked::all(tally::no_score());
+    let one = report(b"source 001, requests", a.exact, tally::none());
+    let two = report(b"source 001, replies", b.exact, one);
+    let three = report(b"source 001, settings", settings::all(tally::none()), two);
+    let four = report(b"source 003, requests", c.exact, three);
+    let five = report(b"source 003, replies", d.exact, four);
+    let six = report(b"worked out from layouts", e.exact, five);
+    let damaged = a.damaged.join(b.damaged).join(c.damaged).join(d.damaged);
+    report(b"damaged variants", damaged.join(e.damaged), six)
 }
 
 fn main() {
-    let sources = source_003(source_001());
-    let messages = worked_and_damaged(sources);
-    let readings = report(b"document 01, readings", readings::all(), messages);
-    let rules = tables(readings);
-    verdict(report(b"document 01, room of an output", room::all(), rules));
+    let a = messages();
+    let b = report(b"document 01, readings", readings::all(tally::none()), a);
+    let c = report(
+        b"document 01, table of requests",
+        table::all(Direction::Request),
+        b,
+    );
+    let d = report(
+        b"document 01, table of replies",
+        table::all(Direction::Reply),
+        c,
+    );
+    verdict(report(b"document 01, room of an output", room::all(), d));
 }

@@ -1,5 +1,6 @@
-// What a builder left in an output that held only the byte A5 before.
+// What a builder left in an output that held only the byte A5 before, and where a reader found data.
 use message::Built;
+use message_rules::Position;
 
 pub(crate) const BLANK: u8 = 0xA5;
 
@@ -39,4 +40,17 @@ pub(crate) fn refused(built: Built, out: &[u8], number: u8) -> bool {
         Built::Done(_) => false,
         Built::Refused(n) => n == number && untouched_from(out, 0),
     }
+}
+
+// Whether the `len` bytes at this position are these.
+pub(crate) fn part_is(s: &[u8], position: Position, len: usize, data: &[u8]) -> bool {
+    let at = position.0;
+    if s.len() < at {
+        return false;
+    }
+    let rest = &s[at..];
+    if rest.len() < len {
+        return false;
+    }
+    check::same(&rest[0..len], data)
 }

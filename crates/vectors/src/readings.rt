@@ -1,61 +1,91 @@
 // Document 01's readings at the edges of the rules, each with the answer that it gives there.
-use crate::line;
 use crate::number;
-use crate::records;
-use crate::records::Test;
 use crate::reply;
+use crate::request;
 use crate::tally;
 use crate::tally::Tally;
 
-// The null message, with and without bytes behind it, and other messages of no body; a request sent to the host, the request itself;
-// source 001's reply that is cut short. In front of each its length and its answer.
-fn replies() -> Tally {
-    let slices = b"\
-        \x03\x0C\x6E\x80\xBE\
-        \x04\x0C\x6E\x80\xBE\x00\
-        \x06\x0C\x6E\x80\xBE\x6E\x88\x02\
-        \x03\x05\x6E\x80\x4E\
-        \x03\x05\x6E\x80\xBF\
-        \x03\x04\x6E\x00\x3E\
-        \x03\x04\x6E\x00\x4E\
-        \x03\x03\x6F\x80\xBE\
-        \x02\x02\x6E\x80\
-        \x00\x02\
-        \x05\x06\x6E\x82\x01\x10\xAD\
-        \x05\x03\x51\x82\x01\x10\xAC\
-        \x04\x04\x6E\x88\x02\x00";
-    records::each(Test::ReplyAnswer, slices)
+impl Tally {
+    fn request(self, s: &[u8], expected: u8) -> Tally {
+        self.count(request::answer(s) == expected)
+    }
+
+    fn reply(self, s: &[u8], expected: u8) -> Tally {
+        self.count(reply::answer(s) == expected)
+    }
 }
 
-// Messages of no body; a reply sent to the display, the reply itself; source 001's line with 59 in the checksum's place.
-fn requests() -> Tally {
-    let slices = b"\
-        \x03\x06\x51\x80\xBF\
-        \x03\x05\x51\x80\xBE\
-        \x03\x04\x51\x00\x3F\
-        \x00\x02\
-        \x0B\x06\x51\x88\x02\x00\x10\x00\x00\x64\x00\x32\xF3\
-        \x0B\x03\x6E\x88\x02\x00\x10\x00\x00\x64\x00\x32\xF2\
-        \x07\x05\x51\x84\x03\xD7\x02\x20\x59";
-    records::each(Test::RequestAnswer, slices)
+// The null message, with and without bytes behind it, and other messages of no body.
+fn empty(t: Tally) -> Tally {
+    t.reply(b"\x6E\x80\xBE", number::NULL_MESSAGE)
+        .reply(b"\x6E\x80\xBE\x00", number::NULL_MESSAGE)
+        .reply(b"\x6E\x80\xBE\x6E\x88\x02", number::NULL_MESSAGE)
+        .reply(b"\x6E\x80\x4E", number::WRONG_CHECKSUM)
+        .reply(b"\x6E\x80\xBF", number::WRONG_CHECKSUM)
+        .reply(b"\x6E\x00\x3E", number::WRONG_LENGTH)
+        .reply(b"\x6E\x00\x4E", number::WRONG_LENGTH)
+        .reply(b"\x6F\x80\xBE", number::WRONG_FIRST_BYTE)
+        .reply(b"\x6E\x80", number::TOO_SHORT)
+        .reply(b"", number::TOO_SHORT)
+        .request(b"\x51\x80\xBF", number::UNKNOWN_COMMAND)
+        .request(b"\x51\x80\xBE", number::WRONG_CHECKSUM)
+        .request(b"\x51\x00\x3F", number::WRONG_LENGTH)
+        .request(b"", number::TOO_SHORT)
+}
+
+// A message sent the wrong way; source 001's reply that is cut short, and its line with 59 in the checksum's place.
+fn wrong_way(t: Tally) -> Tally {
+    t.request(
+            b"\x51\x88\x02\x00\x10\x00\x00\x64\x00\x32\xF3",
+            number::UNKNOWN_COMMAND,
+        )
+        .reply(b"\x6E\x82\x01\x10\xAD", number::UNKNOWN_COMMAND)
+        .request(
+            b"\x6E\x88\x02\x00\x10\x00\x00\x64\x00\x32\xF2",
+            number::WRONG_FIRST_BYTE,
+        )
+        .reply(b"\x51\x82\x01\x10\xAC", number::WRONG_FIRST_BYTE)
+        .reply(b"\x6E\x88\x02\x00", number::WRONG_LENGTH)
+        .request(b"\x51\x84\x03\xD7\x02\x20\x59", number::WRONG_CHECKSUM)
 }
 
 // Result 1 is accepted whatever the other fields are.
-fn unsupported() -> Tally {
-    let lines = b"\
-        \x6E\x88\x02\x01\x10\x01\x12\x34\x56\x78\xAC\
-        \x6E\x88\x02\x01\x10\x00\x00\x00\x00\x00\xA5";
-    records::each(Test::Exact, lines)
+fn unsupported(t: Tally) -> Tally {
+    t.count(reply::value_holds(
+            b"\x6E\x88\x02\x01\x10\x01\x12\x34\x56\x78\xAC",
+            1,
+            0x10,
+            1,
+            0x1234,
+            0x5678,
+        ))
+        .count(reply::value_holds(
+            b"\x6E\x88\x02\x01\x10\x00\x00\x00\x00\x00\xA5",
+            1,
+            0x10,
+            0,
+            0,
+            0,
+        ))
 }
 
 // A Timing reply with this status: its bits 5 to 2 must be 0.
 fn status_holds(status: u8) -> bool {
-    let sum = 0x39 ^ status;
-    let s = [0x6E, 0x06, 0x4E, status, 0x34, 0x1C, 0x17, 0x70, sum];
+    let s = [
+        0x6E,
+        0x06,
+        0x4E,
+        status,
+        0x34,
+        0x1C,
+        0x17,
+        0x70,
+        0x39 ^ status,
+    ];
     if status & 0x3C == 0 {
-        return line::holds(&s);
+        return reply::timing_holds(&s, status, 0x341C, 0x1770);
     }
-    line::not_allowed(&s, number::WRONG_FIELD)
+    reply::timing_refused(&s, status)
 }
 
 // A Value reply with this result and type: each must be 0 or 1.
@@ -75,9 +105,9 @@ fn value_holds(result: u8, kind: u8) -> bool {
         sum,
     ];
     if result < 2 && kind < 2 {
-        return line::holds(&s);
+        return reply::value_holds(&s, result, 0x10, kind, 0x1234, 0x5678);
     }
-    line::not_allowed(&s, number::WRONG_FIELD)
+    reply::value_refused(&s, result, kind)
 }
 
 // Messages of no body with this last byte. To the host the null message alone has the right checksum; the plain form needs 4E in a body.
@@ -93,27 +123,24 @@ fn empty_holds(last: u8) -> bool {
     reply::answer(&null) == number::WRONG_CHECKSUM
 }
 
-// Every result with either type, and every type with either result.
-fn values(field: u8) -> Tally {
-    let a = tally::none().count(value_holds(field, 0));
-    let b = a.count(value_holds(field, 1));
-    let c = b.count(value_holds(0, field));
-    c.count(value_holds(1, field))
-}
-
-// Every last byte of a reply of no body, every status, every result and type.
+// Every last byte of a reply of no body, every status, every result with either type, every type with either result.
 fn fields() -> Tally {
     let mut sum = tally::none();
     for field in 0..=255u8 {
         let empty = sum.count(empty_holds(field));
-        let status = empty.count(status_holds(field));
-        let next = status.join(values(field));
+        let a = empty.count(status_holds(field));
+        let b = a.count(value_holds(field, 0));
+        let c = b.count(value_holds(field, 1));
+        let d = c.count(value_holds(0, field));
+        let next = d.count(value_holds(1, field));
         sum = next;
     }
     sum
 }
 
-pub(crate) fn all() -> Tally {
-    let edges = replies().join(requests());
-    edges.join(unsupported()).join(fields())
+pub(crate) fn all(t: Tally) -> Tally {
+    let a = empty(t);
+    let b = wrong_way(a);
+    let c = unsupported(b);
+    c.join(fields())
 }

@@ -1,10 +1,11 @@
-// A reply, as in request.rt. `line` is the reply itself; what is read may have other bytes behind it.
-use crate::layout;
+// One vector of a reply, as in request.rt. The output that a reply was built into has other bytes behind it, and is read too.
+use crate::damage;
 use crate::number;
-use message::Built;
+use crate::output;
+use crate::tally::Score;
 use message::ReplyRead;
 use message::reply;
-use message_rules::Position;
+use message_rules::Direction;
 use message_rules::TO_HOST;
 use message_rules::TextOffset;
 
@@ -15,103 +16,149 @@ fn host_answer(s: &[u8]) -> u8 {
     number::DONE
 }
 
-fn display_answer(s: &[u8]) -> u8 {
-    if let ReplyRead::Refused(refusal) = reply::read_display_reply(s) {
-        return refusal;
-    }
-    number::DONE
-}
-
 // The answer number of a reading, on which the reader of any address and that of the display agree.
 pub(crate) fn answer(s: &[u8]) -> u8 {
     let expected = host_answer(s);
-    if display_answer(s) == expected {
+    if let ReplyRead::Refused(refusal) = reply::read_display_reply(s) {
+        if refusal == expected {
+            return refusal;
+        }
+        return number::DISAGREE;
+    }
+    if expected == number::DONE {
         return expected;
     }
     number::DISAGREE
 }
 
-// Data of a fragment: the bytes from index 5 to the checksum.
-fn has_data(line: &[u8], position: Position, len: usize) -> bool {
-    let n = line.len();
-    if n < 6 {
-        return false;
+fn is_value(s: &[u8], result: u8, code: u8, kind: u8, max: u16, present: u16) -> bool {
+    if let ReplyRead::Value(r, c, k, m, p) = reply::read_display_reply(s) {
+        return r == result && c == code && k == kind && m == max && p == present;
     }
-    position.0 == 5 && len == n - 6
+    false
 }
 
-fn has_value(line: &[u8], result: u8, code: u8, kind: u8, max: u16, present: u16) -> bool {
-    layout::begins(line, &[0x02, result, code, kind])
-        && layout::word(line, 6) == max
-        && layout::word(line, 8) == present
+fn is_timing(s: &[u8], status: u8, horizontal: u16, vertical: u16) -> bool {
+    if let ReplyRead::Timing(a, h, v) = reply::read_display_reply(s) {
+        return a == status && h == horizontal && v == vertical;
+    }
+    false
 }
 
-fn has_timing(line: &[u8], status: u8, horizontal: u16, vertical: u16) -> bool {
-    layout::begins(line, &[0x4E, status])
-        && layout::word(line, 4) == horizontal
-        && layout::word(line, 6) == vertical
+fn is_text_fragment(s: &[u8], offset: u16, data: &[u8]) -> bool {
+    if let ReplyRead::TextFragment(o, at, len) = reply::read_display_reply(s) {
+        return o.0 == offset && output::part_is(s, at, len, data);
+    }
+    false
 }
 
-// Whether the reader finds each field where the layout puts it.
-pub(crate) fn reads(s: &[u8], line: &[u8]) -> bool {
-    match reply::read_display_reply(s) {
-        ReplyRead::Value(result, code, kind, max, present) => {
-            has_value(line, result, code, kind, max, present)
+fn is_table_fragment(s: &[u8], offset: u16, data: &[u8]) -> bool {
+    if let ReplyRead::TableFragment(o, at, len) = reply::read_display_reply(s) {
+        return o.0 == offset && output::part_is(s, at, len, data);
+    }
+    false
+}
+
+pub(crate) fn value_holds(
+    s: &[u8],
+    result: u8,
+    code: u8,
+    kind: u8,
+    max: u16,
+    present: u16,
+) -> bool {
+    let mut space = output::blank();
+    let out: &mut [u8] = &mut space;
+    let built = reply::build_value(TO_HOST, result, code, kind, max, present, out);
+    is_value(s, result, code, kind, max, present)
+        && output::wrote(built, out, s)
+        && is_value(out, result, code, kind, max, present)
+}
+
+pub(crate) fn timing_holds(s: &[u8], status: u8, horizontal: u16, vertical: u16) -> bool {
+    let mut space = output::blank();
+    let out: &mut [u8] = &mut space;
+    let built = reply::build_timing_reply(TO_HOST, status, horizontal, vertical, out);
+    is_timing(s, status, horizontal, vertical)
+        && output::wrote(built, out, s)
+        && is_timing(out, status, horizontal, vertical)
+}
+
+// Fields that are not allowed: 7 for the reader and for the builder.
+pub(crate) fn value_refused(s: &[u8], result: u8, kind: u8) -> bool {
+    let mut space = output::blank();
+    let out: &mut [u8] = &mut space;
+    let built = reply::build_value(TO_HOST, result, 0x10, kind, 0x1234, 0x5678, out);
+    answer(s) == number::WRONG_FIELD && output::refused(built, out, number::WRONG_FIELD)
+}
+
+pub(crate) fn timing_refused(s: &[u8], status: u8) -> bool {
+    let mut space = output::blank();
+    let out: &mut [u8] = &mut space;
+    let built = reply::build_timing_reply(TO_HOST, status, 0x341C, 0x1770, out);
+    answer(s) == number::WRONG_FIELD && output::refused(built, out, number::WRONG_FIELD)
+}
+
+impl Score {
+    fn reply(self, s: &[u8], holds: bool) -> Score {
+        let exact = self.exact;
+        let damaged = self.damaged;
+        Score {
+            exact: exact.count(holds && answer(s) == number::DONE),
+            damaged: damaged.join(damage::variants(Direction::Reply, s)),
         }
-        ReplyRead::Timing(status, horizontal, vertical) => {
-            has_timing(line, status, horizontal, vertical)
+    }
+
+    pub(crate) fn value(
+        self,
+        s: &[u8],
+        result: u8,
+        code: u8,
+        kind: u8,
+        max: u16,
+        present: u16,
+    ) -> Score {
+        self.reply(s, value_holds(s, result, code, kind, max, present))
+    }
+
+    pub(crate) fn timing_reply(
+        self,
+        s: &[u8],
+        status: u8,
+        horizontal: u16,
+        vertical: u16,
+    ) -> Score {
+        self.reply(s, timing_holds(s, status, horizontal, vertical))
+    }
+
+    pub(crate) fn text_fragment(self, s: &[u8], offset: u16, data: &[u8]) -> Score {
+        let mut space = output::blank();
+        let out: &mut [u8] = &mut space;
+        let built = reply::build_text_fragment(TO_HOST, TextOffset(offset), data, out);
+        let written = output::wrote(built, out, s) && is_text_fragment(out, offset, data);
+        self.reply(s, written && is_text_fragment(s, offset, data))
+    }
+
+    pub(crate) fn table_fragment(self, s: &[u8], offset: u16, data: &[u8]) -> Score {
+        let mut space = output::blank();
+        let out: &mut [u8] = &mut space;
+        let built = reply::build_table_fragment(TO_HOST, TextOffset(offset), data, out);
+        let written = output::wrote(built, out, s) && is_table_fragment(out, offset, data);
+        self.reply(s, written && is_table_fragment(s, offset, data))
+    }
+
+    // More data than a fragment may have: 7 for both builders, and 4 for the reader of these bytes, whose n is above 35.
+    pub(crate) fn fragment_refused(self, s: &[u8], data: &[u8]) -> Score {
+        let mut space = output::blank();
+        let out: &mut [u8] = &mut space;
+        let text = reply::build_text_fragment(TO_HOST, TextOffset(0x0291), data, out);
+        let text_refused = output::refused(text, out, number::WRONG_FIELD);
+        let table = reply::build_table_fragment(TO_HOST, TextOffset(0x0291), data, out);
+        let table_refused = output::refused(table, out, number::WRONG_FIELD);
+        let exact = self.exact;
+        Score {
+            exact: exact.count(text_refused && table_refused && answer(s) == number::WRONG_LENGTH),
+            damaged: self.damaged,
         }
-        ReplyRead::TextFragment(offset, at, len) => {
-            layout::has_offset(line, 0xE3, offset.0) && has_data(line, at, len)
-        }
-        ReplyRead::TableFragment(offset, at, len) => {
-            layout::has_offset(line, 0xE4, offset.0) && has_data(line, at, len)
-        }
-        ReplyRead::Refused(_) => false,
-    }
-}
-
-fn build_value(s: &[u8], out: &mut [u8]) -> Built {
-    if s.len() < 11 {
-        return Built::Refused(number::DISAGREE);
-    }
-    let max = layout::word(s, 6);
-    reply::build_value(TO_HOST, s[3], s[4], s[5], max, layout::word(s, 8), out)
-}
-
-fn build_timing(s: &[u8], out: &mut [u8]) -> Built {
-    let horizontal = layout::word(s, 4);
-    let vertical = layout::word(s, 6);
-    reply::build_timing_reply(TO_HOST, layout::byte(s, 3), horizontal, vertical, out)
-}
-
-fn build_text_fragment(s: &[u8], out: &mut [u8]) -> Built {
-    let n = s.len();
-    if n < 6 {
-        return Built::Refused(number::DISAGREE);
-    }
-    let offset = TextOffset(layout::word(s, 3));
-    reply::build_text_fragment(TO_HOST, offset, &s[5..n - 1], out)
-}
-
-fn build_table_fragment(s: &[u8], out: &mut [u8]) -> Built {
-    let n = s.len();
-    if n < 6 {
-        return Built::Refused(number::DISAGREE);
-    }
-    let offset = TextOffset(layout::word(s, 3));
-    reply::build_table_fragment(TO_HOST, offset, &s[5..n - 1], out)
-}
-
-// Builds a reply from the fields that the layout puts in these bytes; of three bytes, the null message.
-pub(crate) fn build(s: &[u8], out: &mut [u8]) -> Built {
-    if s.len() == 3 {
-        return reply::build_null(out);
-    }
-    match layout::byte(s, 2) {
-        0x02 => build_value(s, out),
-        0x4E => build_timing(s, out),
-        0xE3 => build_text_fragment(s, out),
-        _ => build_table_fragment(s, out),
     }
 }

@@ -1,5 +1,5 @@
 // Document 01's table of messages, run whole: every command number with every length, in either form of length byte.
-use crate::line;
+use crate::damage;
 use crate::number;
 use crate::tally;
 use crate::tally::Tally;
@@ -21,7 +21,7 @@ fn seed(direction: Direction) -> u8 {
 
 fn answer_to_first(direction: Direction, s: &[u8], len: usize) -> u8 {
     if len <= s.len() {
-        return line::answer(direction, &s[0..len]);
+        return damage::answer(direction, &s[0..len]);
     }
     number::DISAGREE
 }

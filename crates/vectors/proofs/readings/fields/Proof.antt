@@ -28,11 +28,29 @@ status-holds-requires c κs = search needs
 count-requires-2 : tie.Need-count-requires-2 Inv-loop μ-loop
 count-requires-2 c κs = search needs
 
-values-requires : tie.Need-values-requires Inv-loop μ-loop
-values-requires c κs = search needs
+value-holds-requires : tie.Need-value-holds-requires Inv-loop μ-loop
+value-holds-requires c κs = search needs
 
-join-requires : tie.Need-join-requires Inv-loop μ-loop
-join-requires c κs = search needs
+count-requires-3 : tie.Need-count-requires-3 Inv-loop μ-loop
+count-requires-3 c κs = search needs
+
+value-holds-requires-2 : tie.Need-value-holds-requires-2 Inv-loop μ-loop
+value-holds-requires-2 c κs = search needs
+
+count-requires-4 : tie.Need-count-requires-4 Inv-loop μ-loop
+count-requires-4 c κs = search needs
+
+value-holds-requires-3 : tie.Need-value-holds-requires-3 Inv-loop μ-loop
+value-holds-requires-3 c κs = search needs
+
+count-requires-5 : tie.Need-count-requires-5 Inv-loop μ-loop
+count-requires-5 c κs = search needs
+
+value-holds-requires-4 : tie.Need-value-holds-requires-4 Inv-loop μ-loop
+value-holds-requires-4 c κs = search needs
+
+count-requires-6 : tie.Need-count-requires-6 Inv-loop μ-loop
+count-requires-6 c κs = search needs
 
 add-field : tie.Need-add-field Inv-loop μ-loop
 add-field c = search needs
@@ -61,8 +79,14 @@ fields-spec =
     count-requires
     status-holds-requires
     count-requires-2
-    values-requires
-    join-requires
+    value-holds-requires
+    count-requires-3
+    value-holds-requires-2
+    count-requires-4
+    value-holds-requires-3
+    count-requires-5
+    value-holds-requires-4
+    count-requires-6
     add-field
     loop-less
     loop-again

@@ -1,8 +1,8 @@
--- `vectors::settings::run` is safe and ends. The measure is what is left of the count.
+-- `vectors::tally::Tally::range` is safe and ends. The measure is what is left of the count.
 use Prim.Native.Nat.{_≤_, _-_}
 use borrow.Author.Needs.{needs}
-use Rattle.vectors.proofs.settings.run.Statement.{statement}
-use Rattle.vectors.proofs.settings.run.Tie as tie
+use Rattle.vectors.proofs.tally.Tally.range.Statement.{statement}
+use Rattle.vectors.proofs.tally.Tally.range.Tie as tie
 
 abbrev Inv-loop : tie.InvT-loop
 Inv-loop code high low high-step low-step count sum₀ h₀ l₀ counter₀ sum h l counter = counter ≤ count
@@ -10,17 +10,14 @@ Inv-loop code high low high-step low-step count sum₀ h₀ l₀ counter₀ sum 
 abbrev μ-loop : tie.MeasureT-loop
 μ-loop code high low high-step low-step count sum₀ h₀ l₀ counter₀ sum h l counter = count - counter
 
-none-requires : tie.Need-none-requires Inv-loop μ-loop
-none-requires c κs = search needs
-
 loop-holds : tie.Need-loop-holds Inv-loop μ-loop
 loop-holds c = search needs
 
-setting-holds-requires : tie.Need-setting-holds-requires Inv-loop μ-loop
-setting-holds-requires c κs = search needs
+slice-aggregate-setting : tie.Need-slice-aggregate-setting Inv-loop μ-loop
+slice-aggregate-setting c = search needs
 
-count-requires : tie.Need-count-requires Inv-loop μ-loop
-count-requires c κs = search needs
+setting-requires : tie.Need-setting-requires Inv-loop μ-loop
+setting-requires c κs = search needs
 
 wrapping-add-u8-requires : tie.Need-wrapping-add-u8-requires Inv-loop μ-loop
 wrapping-add-u8-requires c κs = search needs
@@ -40,16 +37,15 @@ loop-again c = search needs
 returns : tie.Need-returns Inv-loop μ-loop
 returns c = search needs
 
-pub run-spec : {M : Type 1} → statement M
-run-spec =
+pub range-spec : {M : Type 1} → statement M
+range-spec =
     tie.close
     (tie.spec
     Inv-loop
     μ-loop
-    none-requires
     loop-holds
-    setting-holds-requires
-    count-requires
+    slice-aggregate-setting
+    setting-requires
     wrapping-add-u8-requires
     wrapping-add-u8-requires-2
     add-counter

@@ -4,8 +4,8 @@
  * pointer that is not null. Answer numbers: 0 done; 1 a lent buffer has the wrong size; 2 under 3 bytes; 3 first byte wrong; 4 length byte wrong; 5 checksum wrong; 6 command (or text)
  * unknown; 7 length or field wrong for the command; 10 fragment not the one wanted; 11 text too long; 12 null message; 13 grammar, 14 node room, 15 depth of a capabilities string;
  * 16 transfer closed; 18 budget not allowed. A refusal writes nothing. */
-#ifndef DDCCI_H
-#define DDCCI_H
+#ifndef PANEKNOLL_DDCCI_H
+#define PANEKNOLL_DDCCI_H
 
 #include <stddef.h>
 #include <stdint.h>

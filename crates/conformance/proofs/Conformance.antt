@@ -59,7 +59,7 @@ unfolding fragmentMessage
 reply-is Capabilities text c = refl
 reply-is Table text c = refl
 
-request-is : (k : TextKind) (q : ℕ) → requestMessage k q ≡ encode requests toDisplay (asksFor k q)
+pub request-is : (k : TextKind) (q : ℕ) → requestMessage k q ≡ encode requests toDisplay (asksFor k q)
 unfolding requestMessage
 request-is Capabilities q = refl
 request-is Table q = refl

@@ -1,0 +1,128 @@
+-- A wire that loses and changes nothing: the list of exchanges is made one at a time, each with the display's own step and its own reply, by transfer_rules' invariant `Kept`.
+-- Assumes nothing.
+use Prim.Native.Nat.{ℕ, zero, suc, _≤_, _<_}
+use mathlib.Core.Path.{_≡_, refl, ap, ap₂, sym, _∙_, subst}
+use mathlib.Core.Bool.{Bool, true, false, cond, _&&_}
+use mathlib.Core.List.{List, [], _∷_, append-nil}
+use mathlib.Core.Option.{some, none}
+use native.Mathlib.Omega.{arith}
+use lib.ListN.{length, take, drop, length-take}
+use lib.Dec.{eqb}
+use borrow.Author.Tests.{le-leb, eqb-true, eqb-false}
+use Rattle.checksum.specs.Bytes as bytes
+use Rattle.checksum.specs.Bytes.{Bytes}
+use Rattle.checksum.proofs.Bytes.{bytes-take, bytes-drop}
+use Rattle.message_rules.specs.Limits.{outputRoom, longestText}
+use Rattle.message_rules.specs.Message.{toHost}
+use Rattle.message_rules.specs.declared.TextKind.{TextKind}
+use Rattle.message_rules.specs.declared.TextKind.the-variants.{Capabilities, Table}
+use Rattle.message_rules.proofs.RoundTrip.{replies-round}
+use Rattle.display_rules.specs.State.{cursorOf}
+use Rattle.display_rules.specs.Fragments.{readTurn, tableReadTurn}
+use Rattle.display_rules.specs.Step.{Outcome, lentWell, step, turn}
+use Rattle.display_rules.specs.Statements.{whole, asksFor}
+use Rattle.display_rules.specs.declared.Display.{Display}
+use Rattle.display_rules.proofs.Reading.{valid, read-back}
+use Rattle.transfer_rules.specs.declared.State.the-variants.{Running, Exhausted}
+use Rattle.transfer_rules.specs.Limits.{mostBudget}
+use Rattle.transfer_rules.specs.Fragment.{requestMessage, fragmentFor, fragmentMessage}
+use Rattle.transfer_rules.specs.Transfer.{isOpen}
+use Rattle.transfer_rules.specs.Conforming.{Cursor, replyFrom}
+use Rattle.transfer_rules.specs.Exchange.{rules, Turn, ignores, World, Exchange, Begins, start, sent, after}
+use Rattle.transfer_rules.specs.Demand3.{enough}
+use Rattle.transfer_rules.proofs.Messages.{fragment-valid}
+use Rattle.transfer_rules.proofs.Steps.{sent-is, Lands}
+use Rattle.transfer_rules.proofs.Kept.{StateKept, Kept, reached-le, reply-read, answered-kept, closed-kept}
+use Rattle.conformance.specs.Conformance.{held}
+use Rattle.conformance.specs.BothEnds.{turnOf, DisplayTurn, missed, stepped, Between, ended, answered, closed}
+use Rattle.conformance.specs.Undisturbed.{Undisturbed}
+use Rattle.conformance.proofs.Conformance.{request-is, display-conforms}
+use Rattle.conformance.proofs.BothEnds.{Stands, turn-follows, text-small, both-ends}
+
+-- a step on the request for a text leaves the sizes right
+sizes-kept : (k : TextKind) (d : Display) (lent table out : List ℕ) (q : ℕ) → lentWell d (length lent) (length table) (length out) ≡ true → q < 65536 →
+    lentWell (step d lent table (requestMessage k q) out .display) (length lent) (length (step d lent table (requestMessage k q) out .table)) (length out) ≡ true
+unfolding step turn readTurn tableReadTurn
+sizes-kept Capabilities d lent table out q w h = rw (request-is Capabilities q, w, read-back (asksFor Capabilities q) (valid Capabilities q h)) w
+sizes-kept Table d lent table out q w h = rw (request-is Table q, w, read-back (asksFor Table q) (valid Table q h)) w
+
+-- the reply from a cursor that is in range is bytes
+reply-bytes : (k : TextKind) (text : List ℕ) (p : ℕ) (b : Cursor) → Bytes text → p < 65536 → Lands (length text) p b → Bytes (replyFrom k text b)
+unfolding fragmentMessage
+reply-bytes k text p b z h l =
+    replies-round .bytes toHost (fragmentFor k (b .offset) (take (b .size) (drop (b .offset) text))) (omega arith) (omega arith)
+    (fragment-valid k (b .offset) _ (omega (arith, l .at)) (omega (arith, length-take (b .size) (drop (b .offset) text), l .sized .most)) (bytes-take (b .size) (bytes-drop (b .offset) z)))
+
+-- an exchange in which nothing arrives, and one in which the request and the whole reply do
+abbrev lost : List ℕ → Exchange
+lost output = record { output = output; turn = ignores; came = [] }
+
+abbrev whole-reply : TextKind → List ℕ → ℕ → Outcome → Exchange
+whole-reply k output q o = record { output = output; turn = turnOf k q o; came = take (o .length) (o .out) }
+
+module _ (k : TextKind) (lent out output text buffer : List ℕ) (budget : ℕ) (room : outputRoom ≤ length output) (z : Bytes text) (small : length text ≤ longestText) (fits : length text ≤ length buffer) where
+  -- an open transfer sends the request for the offset reached
+  sends : (w : World) (i : ℕ) → Kept k text buffer budget w i 0 → isOpen (w .transfer) ≡ true → (t : Turn) (came : List ℕ) →
+      sent rules w (record { output = output; turn = t; came = came }) ≡ some (requestMessage k (w .transfer .reached .0))
+  sends w i v o t came =
+      sent-is (w .transfer) output
+      ∙ ap₂ (λ (x y : Bool). cond (x && y) (some (requestMessage (w .transfer .kind) (w .transfer .reached .0))) none) o (le-leb outputRoom (length output) room)
+      ∙ ap (λ (x : TextKind). some (requestMessage x (w .transfer .reached .0))) (v .kindIs)
+
+  -- lists of m exchanges from there, none corrupted
+  abbrev Lists : ℕ → World → Display → List ℕ → Type 0
+  Lists m w d table = (es : List Exchange) × (length es ≡ m) × Between rules step k lent d table w es 0
+
+  -- from wherever i exchanges have led
+  abbrev Runs : (m i : ℕ) → Type 0
+  Runs m i = (w : World) (d : Display) (table : List ℕ) → Kept k text buffer budget w i 0 → Stands step display-conforms rules k lent text (w .cursor) d table →
+      lentWell d (length lent) (length table) (length out) ≡ true → Lists m w d table
+
+  one-more : (m i : ℕ) → Runs m (suc i) → Runs (suc m) i
+  unfolding after
+  one-more m i next w d table v s l = go (isOpen (w .transfer)) refl
+    where
+      go : (b : Bool) → isOpen (w .transfer) ≡ b → Lists (suc m) w d table
+      go false e =
+          let idle : Exchange = lost output in
+          let rest = next (after rules w idle) d table (closed-kept k text buffer budget z small fits w idle i 0 v e) s l in
+          (idle ∷ rest .0, ap suc (rest .1), closed bytes.none (missed refl) e (rest .2))
+      go true e =
+          let q : ℕ = w .transfer .reached .0 in
+          let o : Outcome = step d lent table (requestMessage k q) out in
+          let full : Exchange = whole-reply k output q o in
+          let low : q < 65536 = omega (arith, reached-le k text buffer budget z small fits w full i 0 v) in
+          let t : DisplayTurn rules step k lent w full d table (o .display) (o .table) = stepped q out (sends w i v e (full .turn) (full .came)) low l refl in
+          let f = turn-follows step display-conforms rules k lent text w full d (o .display) table (o .table) s t in
+          let r : Begins (full .came) (full .came) = ([], sym (append-nil (full .came))) in
+          let lands = reply-read k text buffer budget z small fits w full i 0 v e (full .turn) (f .0) r .0 in
+          let came : Bytes (full .came) = subst Bytes (sym (f .0 .1 .replies)) (reply-bytes k text q (held (cursorOf k (o .display))) z low lands) in
+          let kept = answered-kept k text buffer budget z small fits w full i 0 v e (record { bytes = came; lawful = f .0 }) r in
+          let rest = next (after rules w full) (o .display) (o .table) kept (f .1) (sizes-kept k d lent table out q l low) in
+          (full ∷ rest .0, ap suc (rest .1), answered came t e r (rest .2))
+
+  run : (m i : ℕ) → Runs m i
+  run zero i w d table v s l = ([], refl, ended)
+  run (suc m) i w d table v s l = one-more m i (run m (suc i)) w d table v s l
+
+  -- an accepted beginning keeps what is kept
+  begun : (cursor : Cursor) → enough (length text) 0 ≤ budget → budget ≤ mostBudget → Kept k text buffer budget (start rules k buffer budget cursor) 0 0
+  begun cursor least h =
+      rw (le-leb budget mostBudget h)
+      (record { kindIs = refl; sizeIs = refl; budgetIs = refl; reachedIs = refl; first = refl; holds = refl; countIs = refl; stateIs = state (eqb budget 0) refl })
+    where
+      state : (x : Bool) → eqb budget 0 ≡ x → StateKept (length text) budget 0 0 cursor 0 0 (cond x Exhausted Running)
+      state true e = absurd (omega (arith, eqb-true budget 0 e))
+      state false e =
+          (refl, omega (arith, eqb-false budget 0 e), omega arith, record { sized = λ y. absurd (omega (arith, y)); near = λ y _. absurd (omega (arith, y)) })
+
+pub undisturbed : Undisturbed rules step
+undisturbed k d lent table out output buffer budget y room least =
+    let text : List ℕ = whole k d lent table in
+    let small : length text ≤ longestText = text-small k d lent table out (y .isMade) (y .sizes) in
+    let r = run k lent out output text buffer budget room (y .bytes) small (y .fits) (enough (length text) 0) 0 (start rules k buffer budget (held (cursorOf k d))) d table
+    (begun k lent out output text buffer budget room (y .bytes) small (y .fits) (held (cursorOf k d)) least (y .allowed))
+    (record { isMade = y .isMade; cursorIs = refl; textIs = refl }) (y .sizes) in
+    let c = both-ends k d lent table out buffer budget y (r .0) 0 (r .2) .2 in
+    let e = c .finished 0 (omega arith) (omega (arith, r .1)) least .0 in
+    record { exchanges = r .0; between = r .2; number = r .1; isDone = e; holds = c .done e .2 }

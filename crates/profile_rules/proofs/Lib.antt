@@ -4,3 +4,4 @@ pub mod Judging
 pub mod Storing
 pub mod Theorems
 pub mod Example
+pub mod Made

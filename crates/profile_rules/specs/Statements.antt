@@ -7,11 +7,12 @@ use lib.ListN.{length, take}
 use Rattle.checksum.specs.Bytes.{Bytes}
 use Rattle.message_rules.specs.Answer.{done, brokenProfile}
 use Rattle.codes.specs.Codes.{allCodes}
-use Rattle.settings.specs.Settings.{emptySettings, declareCode}
+use Rattle.settings.specs.Settings.{emptySettings, startWith, declareCode, setCode, saveAll}
 use Rattle.settings.specs.Entries.{Entry, entryOf, Sized, Sound}
 use Rattle.settings.specs.Values.{entryValue}
 use Rattle.settings.specs.declared.Settings.{Settings}
 use Rattle.settings.specs.declared.Declaration.{Declaration}
+use Rattle.settings.specs.declared.Timing.{Timing}
 use Rattle.profile_rules.specs.Records.{recordSize}
 use Rattle.profile_rules.specs.Profile.{profileCode, profileCodes, profileOf, judgeProfile, loadProfile}
 
@@ -75,6 +76,22 @@ ShortProfileRefused = (s : Settings) → Sound s → (k r : ℕ) → k < length 
 
 abbrev pub LoadKeepsSound : Type 0
 LoadKeepsSound = (s : Settings) (bytes : List ℕ) → Sound s → Sound (loadProfile s bytes .settings)
+
+-- settings that a start, refused or not, then declaring, Set, Save and loading have made, in any order
+pub data Made : Settings → Type 0 where
+  started : (t : Timing) → Made (startWith t .settings)
+  declared : {s : Settings} → Made s → (d : Declaration) → d .code < allCodes → Made (declareCode s d .settings)
+  valued : {s : Settings} → Made s → (c value : ℕ) → c < allCodes → Made (setCode s c value .settings)
+  saved : {s : Settings} → Made s → Made (saveAll s)
+  loaded : {s : Settings} → Made s → (bytes : List ℕ) → Made (loadProfile s bytes .settings)
+
+-- on all of them continuous values, present and saved, are within their maximum
+abbrev pub MadeIsSound : Type 0
+MadeIsSound = (s : Settings) → Made s → Sound s
+
+-- so what they write loads back into them
+abbrev pub MadeLoadsBack : Type 0
+MadeLoadsBack = (s : Settings) → Made s → loadProfile s (profileOf s) .answer ≡ done
 
 -- ---- the worked example
 

@@ -1,19 +1,15 @@
--- A text by its number, as a match on the number comes to it.
+-- What stands for a number's text, as a match on the text comes to it.
 -- Assumes nothing.
-use mathlib.Core.Path.{_≡_}
+use mathlib.Core.Path.{_≡_, sym, ap, _∙_}
 use Prim.Native.Nat.{ℕ}
-use borrow.Author.Tests.{eq-eqb, ne-eqb}
 use Rattle.message_rules.specs.declared.TextKind.{TextKind}
-use Rattle.message_rules.specs.declared.TextKind.the-variants.{Capabilities, Table}
-use native.Mathlib.Omega.{arith}
-use Rattle.ddcci.specs.Transfers.{byText}
+use Rattle.ddcci.specs.declared.transfers.TextNumber.{TextNumber}
+use Rattle.ddcci.specs.declared.transfers.TextNumber.the-variants.{Known, Unknown}
+use Rattle.ddcci.specs.Transfers.{textOf, byText}
 
-module _ {A : Type 0} (k : ℕ) (f : TextKind → A) (other : A) where
-  pub text-first : k ≡ 0 → byText k f other ≡ f Capabilities
-  text-first e = rw (eq-eqb k 0 e)
+module _ {A : Type 0} (k : ℕ) (f : TextKind → A) (other : A) (r : TextNumber) (e : r ≡ textOf k) where
+  pub text-known : (t : TextKind) → r ≡ Known t → byText (textOf k) f other ≡ f t
+  text-known t p = ap (λ (x : TextNumber). byText x f other) (sym e ∙ p)
 
-  pub text-second : k ≡ 1 → byText k f other ≡ f Table
-  text-second e = rw (ne-eqb k 0 (λ z. omega arith), eq-eqb k 1 e)
-
-  pub text-none : (k ≡ 0 → ⊥) → (k ≡ 1 → ⊥) → byText k f other ≡ other
-  text-none a b = rw (ne-eqb k 0 a, ne-eqb k 1 b)
+  pub text-unknown : r ≡ Unknown → byText (textOf k) f other ≡ other
+  text-unknown p = ap (λ (x : TextNumber). byText x f other) (sym e ∙ p)

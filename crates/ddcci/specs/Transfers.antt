@@ -16,6 +16,8 @@ use Rattle.transfer_rules.specs.declared.Transfer.{Transfer}
 use Rattle.ddcci.specs.declared.BuiltNumbers.{BuiltNumbers}
 use Rattle.ddcci.specs.declared.transfers.TransferNumbers.{TransferNumbers}
 use Rattle.ddcci.specs.declared.transfers.MovedNumbers.{MovedNumbers}
+use Rattle.ddcci.specs.declared.transfers.TextNumber.{TextNumber}
+use Rattle.ddcci.specs.declared.transfers.TextNumber.the-variants.{Known, Unknown}
 
 -- ---- states and texts as numbers
 
@@ -33,9 +35,14 @@ abbrev pub kindNumber : TextKind → ℕ
 kindNumber Capabilities = 0
 kindNumber Table = 1
 
--- by the text that a number names, or other where it names none
-abbrev pub byText : {A : Type 0} → ℕ → (TextKind → A) → A → A
-byText k f other = cond (eqb k 0) (f Capabilities) (cond (eqb k 1) (f Table) other)
+-- the text that a number names
+abbrev pub textOf : ℕ → TextNumber
+textOf n = cond (eqb n 0) (Known Capabilities) (cond (eqb n 1) (Known Table) Unknown)
+
+-- by the text, or other where there is none
+abbrev pub byText : {A : Type 0} → TextNumber → (TextKind → A) → A → A
+byText (Known t) f other = f t
+byText Unknown f other = other
 
 abbrev pub numbersOf : Transfer → TransferNumbers
 numbersOf t = record {
@@ -61,11 +68,11 @@ unknownText k = record { size = 0; offset = 0; budget = 0; count = 0; kind = k; 
 
 -- a text by its number: an unknown number is refused as an unknown command is, 6
 abbrev pub beginNumbers : (kind size budget : ℕ) → MovedNumbers
-beginNumbers k size budget = byText k (λ t. beganNumbers (rules.begin t size budget)) (record { transfer = unknownText k; answer = unknownCommand })
+beginNumbers k size budget = byText (textOf k) (λ t. beganNumbers (rules.begin t size budget)) (record { transfer = unknownText k; answer = unknownCommand })
 
 -- request: the answer, the length and every byte of the output
 abbrev pub requestOutcome : ℕ → TransferNumbers → List ℕ → RequestOutcome
-requestOutcome k n out = byText k (λ t. rules.request (transferOf t n) out) (record { answer = unknownCommand; length = 0; output = out })
+requestOutcome k n out = byText (textOf k) (λ t. rules.request (transferOf t n) out) (record { answer = unknownCommand; length = 0; output = out })
 
 pub record Requests (x : RequestOutcome) (r : BuiltNumbers) (out : List ℕ) : Type 0 where
   pub answer : r .answer ≡ x .answer
@@ -82,7 +89,7 @@ receivedNumbers x = record { moved = record { transfer = numbersOf (x .transfer)
 
 abbrev pub receiveNumbers : ℕ → TransferNumbers → (buffer came : List ℕ) → Received
 receiveNumbers k n buffer came =
-    byText k (λ t. receivedNumbers (rules.receive (transferOf t n) buffer came)) (record { moved = record { transfer = n; answer = unknownCommand }; buffer = buffer })
+    byText (textOf k) (λ t. receivedNumbers (rules.receive (transferOf t n) buffer came)) (record { moved = record { transfer = n; answer = unknownCommand }; buffer = buffer })
 
 pub record Receives (x : Received) (r : MovedNumbers) (buffer : List ℕ) : Type 0 where
   pub moved : r ≡ x .moved

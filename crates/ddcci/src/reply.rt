@@ -97,7 +97,7 @@ fn reply_numbers(read: ReplyRead) -> ReplyNumbers
 pub extern "C" fn ddcci_read_reply(message: &[u8]) -> ReplyNumbers
     ensures { λ r. ⌜ ReadsReply (now (message .entry)) r ⌝ }
 {
-    reply_numbers(reply::read_display_reply(message))
+    reply_numbers(reply::read_reply(TO_HOST, message))
 }
 
 #[no_mangle]

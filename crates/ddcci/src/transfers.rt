@@ -1,7 +1,7 @@
 // Transfers for Rust and C: a transfer's state as numbers. A state that no call has made is judged like any other, never trusted.
 ghost use mathlib.Core.Path.{_≡_};
 ghost use lib.ListN.{length};
-ghost use Rattle.ddcci.specs.Transfers.{stateOf, stateNumber, kindNumber, transferOf, numbersOf, beganNumbers, beginNumbers, requestOutcome, receiveNumbers, receivedNumbers, Requests, Receives};
+ghost use Rattle.ddcci.specs.Transfers.{stateOf, textOf, stateNumber, kindNumber, transferOf, numbersOf, beganNumbers, beginNumbers, requestOutcome, receiveNumbers, receivedNumbers, Requests, Receives};
 ghost use Rattle.transfer_rules.specs.Transfer as rules;
 use crate::BuiltNumbers;
 use message_rules::TextKind;
@@ -61,6 +61,22 @@ fn kind_number(kind: TextKind) -> u8
     }
 }
 
+// The text that a number names.
+enum TextNumber {
+    Known(TextKind),
+    Unknown,
+}
+
+fn text_of(number: u8) -> TextNumber
+    ensures { λ r. ⌜ r ≡ textOf number ⌝ }
+{
+    match number {
+        0 => TextNumber::Known(TextKind::Capabilities),
+        1 => TextNumber::Known(TextKind::Table),
+        2..=255 => TextNumber::Unknown,
+    }
+}
+
 fn transfer_of(kind: TextKind, n: TransferNumbers) -> Transfer
     ensures { λ r. ⌜ r ≡ transferOf kind n ⌝ }
 {
@@ -105,10 +121,9 @@ fn began_numbers(begun: Begun) -> MovedNumbers
 pub extern "C" fn ddcci_begin(kind: u8, buffer: &[u8], budget: usize) -> MovedNumbers
     ensures { λ r. ⌜ r ≡ beginNumbers kind (length (now (buffer .entry))) budget ⌝ }
 {
-    match kind {
-        0 => began_numbers(transfer::begin(TextKind::Capabilities, buffer, budget)),
-        1 => began_numbers(transfer::begin(TextKind::Table, buffer, budget)),
-        2..=255 => MovedNumbers {
+    match text_of(kind) {
+        TextNumber::Known(text) => began_numbers(transfer::begin(text, buffer, budget)),
+        TextNumber::Unknown => MovedNumbers {
             transfer: TransferNumbers {
                 size: 0,
                 offset: 0,
@@ -138,11 +153,9 @@ fn request_of(kind: TextKind, n: TransferNumbers, out: &mut [u8]) -> BuiltNumber
 pub extern "C" fn ddcci_request(n: TransferNumbers, out: &mut [u8]) -> BuiltNumbers
     ensures { λ r. ⌜ Requests (requestOutcome (n .kind) n (now (out .entry))) r (now (out .exit)) ⌝ }
 {
-    let kind = n.kind;
-    match kind {
-        0 => request_of(TextKind::Capabilities, n, out),
-        1 => request_of(TextKind::Table, n, out),
-        2..=255 => BuiltNumbers {
+    match text_of(n.kind) {
+        TextNumber::Known(text) => request_of(text, n, out),
+        TextNumber::Unknown => BuiltNumbers {
             answer: answer::UNKNOWN_COMMAND,
             length: 0,
         },
@@ -166,11 +179,9 @@ fn receive_of(kind: TextKind, n: TransferNumbers, buffer: &mut [u8], reply: &[u8
 pub extern "C" fn ddcci_receive(n: TransferNumbers, buffer: &mut [u8], reply: &[u8]) -> MovedNumbers
     ensures { λ r. ⌜ Receives (receiveNumbers (n .kind) n (now (buffer .entry)) (now (reply .entry))) r (now (buffer .exit)) ⌝ }
 {
-    let kind = n.kind;
-    match kind {
-        0 => receive_of(TextKind::Capabilities, n, buffer, reply),
-        1 => receive_of(TextKind::Table, n, buffer, reply),
-        2..=255 => MovedNumbers {
+    match text_of(n.kind) {
+        TextNumber::Known(text) => receive_of(text, n, buffer, reply),
+        TextNumber::Unknown => MovedNumbers {
             transfer: n,
             answer: answer::UNKNOWN_COMMAND,
         },

@@ -2,15 +2,16 @@
 -- Assumes nothing.
 use mathlib.Core.Path.{_≡_, refl, sym, ap, ap₂, _∙_, subst}
 use mathlib.Core.Bool.{Bool, true, false, _&&_}
-use mathlib.Core.List.{List, [], _∷_}
+use mathlib.Core.List.{List, [], _∷_, _++_}
 use Prim.Native.Nat.{ℕ, zero, suc, _+_, _-_, _≤_, _<_}
 use native.Mathlib.Nat.{sub-zero}
 use native.Mathlib.Omega.{arith}
 use lib.Dec.{eqb, leb}
 use lib.ListN.{length, getD, take, drop, length-take, length-drop}
-use lib.Seq.{drop-cons}
+use lib.Seq.{drop-cons, take-suc}
 use borrow.Author.Tests.{leb-true, eqb-true, le-leb, lt-leb, eq-eqb, ne-eqb}
 use Rattle.checksum.specs.Xor.{xorAll}
+use Rattle.checksum.proofs.Laws.{xorAll-closed, xorAll-closes}
 use Rattle.message_rules.specs.declared.Address.{Address}
 use Rattle.message_rules.specs.declared.Direction.{Direction}
 use Rattle.message_rules.specs.Read.{Read, ok, refused, unless, require, after, andThen}
@@ -66,9 +67,21 @@ module _ (a : Address) (p : Bool) (s : List ℕ) where
   unfolding tailAnswer
   tail-sum h = rw (eq-eqb (getD s 1 0) (lengthByte p (bodyLength s)) h)
 
--- the sum that the code takes over its part of the slice
-pub sum-of : (seed r n : ℕ) (s : List ℕ) → n ≡ bodyLength s → r ≡ xorAll seed (take (n + 3 - 0) s) → r ≡ xorAll seed (take (bodyLength s + 3) s)
-sum-of seed r n s e q = q ∙ ap (λ (k : ℕ). xorAll seed (take k s)) (sub-zero (n + 3)) ∙ ap (λ (k : ℕ). xorAll seed (take (k + 3) s)) e
+-- the sum r that the code takes, of all bytes but the last: the last byte is r just where the sum of all is 0
+module _ (seed r n : ℕ) (s : List ℕ) (inside : bodyLength s + 3 ≤ length s) (e : n ≡ bodyLength s) (q : r ≡ xorAll seed (take (n + 2 - 0) s)) where
+  front-sum : xorAll seed (take (n + 2) s) ≡ r
+  front-sum = ap (λ (k : ℕ). xorAll seed (take k s)) (sym (sub-zero (n + 2))) ∙ sym q
+
+  whole-sum : xorAll seed (take (bodyLength s + 3) s) ≡ xorAll seed (take (n + 2) s ++ (getD s (n + 2) 0 ∷ []))
+  whole-sum =
+      let k : bodyLength s + 3 ≡ suc (n + 2) = omega arith in
+      ap (xorAll seed) (ap (λ (j : ℕ). take j s) k ∙ take-suc s (n + 2) 0 (omega arith))
+
+  pub sum-right : r ≡ getD s (n + 2) 0 → xorAll seed (take (bodyLength s + 3) s) ≡ 0
+  sum-right h = whole-sum ∙ ap (λ (b : ℕ). xorAll seed (take (n + 2) s ++ (b ∷ []))) (sym h ∙ sym front-sum) ∙ xorAll-closed seed (take (n + 2) s)
+
+  pub sum-wrong : (r ≡ getD s (n + 2) 0 → ⊥) → xorAll seed (take (bodyLength s + 3) s) ≡ 0 → ⊥
+  sum-wrong h z = h (sym front-sum ∙ sym (xorAll-closes seed (take (n + 2) s) (getD s (n + 2) 0) (sym whole-sum ∙ z)))
 
 -- the first answer stands, unless it is 0
 pub first-stands : (j k : ℕ) → (j ≡ 0 → ⊥) → orElse j k ≡ j

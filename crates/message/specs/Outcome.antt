@@ -1,15 +1,22 @@
 -- What the readers' results say of the slice that was read.
-use Prim.Native.Nat.{ℕ, _+_, _≤_}
+use Prim.Native.Nat.{ℕ, _+_, _-_, _≤_, _<_}
 use mathlib.Core.Path.{_≡_}
 use mathlib.Core.List.{List}
 use lib.ListN.{length, take, drop}
 use Rattle.message_rules.specs.Read.{Read, ok, refused}
-use Rattle.message_rules.specs.Message.{Request, get, set, timing, save, text, tableRead, tableWrite, Reply, value, timingReply, textFragment, tableFragment}
+use Rattle.message_rules.specs.Row as row
+use Rattle.message_rules.specs.Layout.{layoutOf, least}
+use Rattle.message_rules.specs.Frame.{bodyLength}
+use Rattle.message_rules.specs.Message.{decode, replies, Request, get, set, timing, save, text, tableRead, tableWrite, Reply, value, timingReply, textFragment, tableFragment}
+use Rattle.message_rules.specs.declared.Address.{Address}
 use Rattle.message_rules.specs.declared.Position.{Position}
 use Rattle.message.specs.declared.RequestRead.{RequestRead}
 use Rattle.message.specs.declared.RequestRead.the-variants as requestRead
 use Rattle.message.specs.declared.ReplyRead.{ReplyRead}
 use Rattle.message.specs.declared.ReplyRead.the-variants as replyRead
+use Rattle.message.specs.declared.reply.ReplyJudged.{ReplyJudged}
+use Rattle.message.specs.declared.reply.ReplyJudged.the-variants as judged
+use Rattle.message.specs.Parts.{bodyIn}
 
 -- the n bytes from a position of the slice on
 abbrev pub partOf : List ℕ → Position → ℕ → List ℕ
@@ -61,3 +68,9 @@ RequestMeans = Meaning requestIn RequestInside
 
 abbrev pub ReplyMeans : List ℕ → ReplyRead → Read Reply → Type 0
 ReplyMeans = Meaning replyIn ReplyInside
+
+-- the tests of a reply, but those of its fields, refuse it, or leave a body of a known kind with all its fields to be read
+abbrev pub ReplyJudges : Address → List ℕ → ReplyJudged → Type 0
+ReplyJudges a s (judged.Known c) =
+    ((1 < length s) × (bodyLength s + 3 ≤ length s) × (0 < bodyLength s) × (least (layoutOf (row.Reply c)) ≤ bodyLength s - 1)) × (decode replies a s ≡ bodyIn replies (row.Reply c) s)
+ReplyJudges a s (judged.Refused k) = decode replies a s ≡ refused k

@@ -89,7 +89,8 @@ pub(crate) fn head_answer(direction: Direction, a: Address, s: &[u8]) -> u8
     answer::WRONG_LENGTH
 }
 
-// The tests of the frame that are left: 4 for the other form of length byte, then 5. 0 if none fails.
+// The tests of the frame that are left: 4 for the other form of length byte, then 5. 0 if none fails. The last byte is compared with the
+// checksum of those in front of it: a sum that is only compared with 0 is not taken several bytes at a time in the compiled code.
 pub(crate) fn tail_answer(a: Address, plain: bool, s: &[u8]) -> u8
     requires { ⌜ (1 < length (now s)) × (bodyLength (now s) + 3 ≤ length (now s)) ⌝ }
     ensures { λ r. ⌜ r ≡ tailAnswer a plain (now (s .entry)) ⌝ }
@@ -99,7 +100,7 @@ pub(crate) fn tail_answer(a: Address, plain: bool, s: &[u8]) -> u8
         return answer::WRONG_LENGTH;
     }
     let seed = a.seed;
-    if checksum::checksum(seed, &s[0..n + 3]) != 0 {
+    if checksum::checksum(seed, &s[0..n + 2]) != s[n + 2] {
         return answer::WRONG_CHECKSUM;
     }
     answer::DONE

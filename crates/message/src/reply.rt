@@ -9,7 +9,7 @@ ghost use Rattle.message_rules.specs.Layout.{layoutOf, least};
 ghost use Rattle.message_rules.specs.Limits.{mostFragment};
 ghost use Rattle.message_rules.specs.Message.{decode, replies, value, timingReply, textFragment, tableFragment, null, toHost};
 ghost use Rattle.message_rules.specs.Row as row;
-ghost use Rattle.message.specs.Outcome.{ReplyMeans};
+ghost use Rattle.message.specs.Outcome.{ReplyMeans, ReplyJudges};
 ghost use Rattle.message.specs.Output.{Builds, BuildsMessage, fragment, startsWith};
 ghost use Rattle.message.specs.Parts.{bodyIn};
 use crate::Built;
@@ -22,6 +22,7 @@ use message_rules::Address;
 use message_rules::Direction;
 use message_rules::Position;
 use message_rules::ReplyKind;
+use message_rules::TO_HOST;
 use message_rules::TextOffset;
 use message_rules::answer;
 use message_rules::limits;
@@ -75,27 +76,52 @@ fn fields(kind: ReplyKind, s: &[u8]) -> ReplyRead
     }
 }
 
-// Reads a reply that came from an address: the message, or the first refusal in the papers' order.
-pub fn read_reply(a: Address, s: &[u8]) -> ReplyRead
-    ensures { λ r. ⌜ ReplyMeans (now (s .entry)) r (decode replies a (now (s .entry))) ⌝ }
+// What the tests of a reply come to, before its fields are read.
+enum ReplyJudged {
+    Known(ReplyKind),
+    Refused(u8),
+}
+
+// The tests of a reply in the papers' order, but those of its fields.
+fn judge(a: Address, s: &[u8]) -> ReplyJudged
+    ensures { λ r. ⌜ ReplyJudges a (now (s .entry)) r ⌝ }
 {
     let head = frame::head_answer(Direction::Reply, a, s);
     if head != answer::DONE {
-        return ReplyRead::Refused(head);
+        return ReplyJudged::Refused(head);
     }
     if frame::body_length(s) == 0 {
-        return ReplyRead::Refused(frame::unread(a, s, answer::NULL_MESSAGE));
+        return ReplyJudged::Refused(frame::unread(a, s, answer::NULL_MESSAGE));
     }
     match table::find_reply(s[2]) {
         ReplyRow::Known(kind, shape) => {
             let refusal = frame::body_answer(a, shape, s);
             if refusal != answer::DONE {
-                return ReplyRead::Refused(refusal);
+                return ReplyJudged::Refused(refusal);
             }
-            fields(kind, s)
+            ReplyJudged::Known(kind)
         }
-        ReplyRow::Unknown => ReplyRead::Refused(frame::unread(a, s, answer::UNKNOWN_COMMAND)),
+        ReplyRow::Unknown => ReplyJudged::Refused(frame::unread(a, s, answer::UNKNOWN_COMMAND)),
     }
+}
+
+// The message of a reply that was judged, or its refusal.
+fn judged_reply(a: Address, judged: ReplyJudged, s: &[u8]) -> ReplyRead
+    requires { ⌜ ReplyJudges a (now s) judged ⌝ }
+    ensures { λ r. ⌜ ReplyMeans (now (s .entry)) r (decode replies a (now (s .entry))) ⌝ }
+{
+    match judged {
+        ReplyJudged::Known(kind) => fields(kind, s),
+        ReplyJudged::Refused(refusal) => ReplyRead::Refused(refusal),
+    }
+}
+
+// Reads a reply that came from an address: the message, or the first refusal in the papers' order.
+pub fn read_reply(a: Address, s: &[u8]) -> ReplyRead
+    ensures { λ r. ⌜ ReplyMeans (now (s .entry)) r (decode replies a (now (s .entry))) ⌝ }
+{
+    let judged = judge(a, s);
+    judged_reply(a, judged, s)
 }
 
 pub fn build_value(
@@ -215,5 +241,6 @@ pub fn read_display_reply(s: &[u8]) -> ReplyRead
     if starts_with(b"\x6E\x80\xBE", s) {
         return ReplyRead::Refused(answer::NULL_MESSAGE);
     }
-    read_reply(message_rules::TO_HOST, s)
+    let judged = judge(TO_HOST, s);
+    judged_reply(TO_HOST, judged, s)
 }

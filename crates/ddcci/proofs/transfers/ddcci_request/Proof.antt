@@ -1,59 +1,43 @@
--- `ddcci::transfers::ddcci_request` meets its contract, a text a line.
+-- `ddcci::transfers::ddcci_request` meets its contract: by the text that the number names.
 -- Assumes nothing.
-use mathlib.Core.Path.{_≡_, refl, sym, ap, _∙_, subst}
-use mathlib.Core.List.{List}
-use Prim.Native.Nat.{ℕ}
-use lib.ListN.{length}
-use Rattle.message_rules.specs.declared.TextKind.{TextKind}
+use mathlib.Core.Path.{refl, sym, subst}
 use Rattle.transfer_rules.specs.Transfer as rules
 use Rattle.transfer_rules.specs.Transfer.{RequestOutcome}
-use Rattle.ddcci.specs.Transfers.{transferOf, Requests}
-use Rattle.ddcci.specs.declared.BuiltNumbers.{BuiltNumbers}
 use Rattle.message_rules.specs.Answer.{unknownCommand}
-use Rattle.ddcci.proofs.Texts.{text-first, text-second, text-none}
+use Rattle.ddcci.specs.Transfers.{transferOf, Requests}
+use Rattle.ddcci.proofs.Texts.{text-known, text-unknown}
 use borrow.Author.Needs.{needs}
 use Rattle.ddcci.proofs.transfers.ddcci_request.Statement.{statement}
 use Rattle.ddcci.proofs.transfers.ddcci_request.Tie as tie
 
+text-of-requires : tie.Need-text-of-requires
+text-of-requires c κs = search needs
+
+enum-known-text : tie.Need-enum-known-text
+enum-known-text c = search needs
+
 request-of-requires : tie.Need-request-of-requires
 request-of-requires c κs = search needs
 
-request-of-requires-2 : tie.Need-request-of-requires-2
-request-of-requires-2 c κs = search needs
+enum-told : tie.Need-enum-told
+enum-told c = search needs
 
 same-length : tie.Need-same-length
 same-length c = search needs
 
 returns : tie.Need-returns
 returns c =
-    let a = c .before .before .before .before .before .before .args in
-    let e = text-first (a .n .kind) (λ t. rules.request (transferOf t (a .n)) (a .out .now)) (record { answer = unknownCommand; length = 0; output = a .out .now }) (c .before .before .before .before .match .keys1) in
-    subst (λ (x : RequestOutcome). Requests x (c .before .before .request-of .result) (c .before .before .request-of .last .1 .1 .0)) (sym e) (c .before .before .request-of .ensures)
-
-same-length-2 : tie.Need-same-length-2
-same-length-2 c = search needs
+    let a = c .before .before .before .before .before .before .before .before .before .args in
+    let n = c .before .before .before .before .before .before .before .text-of in
+    let g = c .before .before .before .before .before .text .given in
+    let r = c .before .before .request-of in
+    subst (λ (x : RequestOutcome). Requests x (r .result) (r .last .1 .1 .0)) (sym (text-known (a .n .kind) (λ t. rules.request (transferOf t (a .n)) (a .out .now)) (record { answer = unknownCommand; length = 0; output = a .out .now }) (n .result) (n .ensures) (g .0 .0) (g .1))) (r .ensures)
 
 returns-2 : tie.Need-returns-2
 returns-2 c =
-    let a = c .before .before .before .before .before .before .args in
-    let e = text-second (a .n .kind) (λ t. rules.request (transferOf t (a .n)) (a .out .now)) (record { answer = unknownCommand; length = 0; output = a .out .now }) (c .before .before .before .before .match .keys2) in
-    subst (λ (x : RequestOutcome). Requests x (c .before .before .request-of2 .result) (c .before .before .request-of2 .last .1 .1 .0)) (sym e) (c .before .before .request-of2 .ensures)
-
-returns-3 : tie.Need-returns-3
-returns-3 c =
-    let a = c .before .before .args in
-    let r = c .match .rest in
-    let e = text-none (a .n .kind) (λ t. rules.request (transferOf t (a .n)) (a .out .now)) (record { answer = unknownCommand; length = 0; output = a .out .now }) (r .0 .1) (r .1) in
-    subst (λ (x : RequestOutcome). Requests x (record { answer = unknownCommand; length = 0 }) (a .out .now)) (sym e) (record { answer = refl; length = refl; output = refl })
+    let a = c .before .before .before .before .args in
+    let n = c .before .before .text-of in
+    subst (λ (x : RequestOutcome). Requests x (record { answer = unknownCommand; length = 0 }) (a .out .now)) (sym (text-unknown (a .n .kind) (λ t. rules.request (transferOf t (a .n)) (a .out .now)) (record { answer = unknownCommand; length = 0; output = a .out .now }) (n .result) (n .ensures) (c .enum-told .given .1))) (record { answer = refl; length = refl; output = refl })
 
 pub ddcci-request-spec : {M : Type 1} → statement M
-ddcci-request-spec =
-    tie.close
-    (tie.spec
-    request-of-requires
-    request-of-requires-2
-    same-length
-    returns
-    same-length-2
-    returns-2
-    returns-3)
+ddcci-request-spec = tie.close (tie.spec text-of-requires enum-known-text request-of-requires enum-told same-length returns returns-2)

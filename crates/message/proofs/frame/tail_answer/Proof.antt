@@ -6,7 +6,7 @@ use Prim.Native.Nat.{_+_}
 use borrow.Author.Tests.{eq-eqb, ne-eqb}
 use Rattle.checksum.specs.Xor.{xorAll}
 use Rattle.message_rules.specs.Frame.{bodyLength, lengthByte}
-use Rattle.message.proofs.Parts.{tail-form, tail-sum, sum-of}
+use Rattle.message.proofs.Parts.{tail-form, tail-sum, sum-right, sum-wrong}
 use borrow.Author.Needs.{needs}
 use Rattle.message.proofs.frame.tail_answer.Statement.{statement}
 use Rattle.message.proofs.frame.tail_answer.Tie as tie
@@ -44,21 +44,29 @@ part-checksum-end c = search needs
 checksum-requires : tie.Need-checksum-requires
 checksum-requires c κs = search needs
 
+add-if2 : tie.Need-add-if2
+add-if2 c = search needs
+
+shared-slice-read-if2 : tie.Need-shared-slice-read-if2
+shared-slice-read-if2 c = search needs
+
 returns-2 : tie.Need-returns-2
 returns-2 c =
-    let a = c .before .before .before .before .before .before .before .before .before .args in
-    let n = c .before .before .before .before .before .before .before .body-length in
-    let sum = sum-of (a .a .seed) (c .before .checksum .result) (n .result) (a .s .now) (n .ensures .0) (c .before .checksum .ensures) in
-    sym (tail-sum (a .a) (a .plain) (a .s .now) (sym (c .before .before .before .before .before .wide .ensures .0) ∙ c .before .before .before .if1 .left ∙ c .before .before .before .before .length-byte .ensures ∙ ap (lengthByte (a .plain)) (n .ensures .0))
-    ∙ rw (ne-eqb (xorAll (a .a .seed) (take (bodyLength (a .s .now) + 3) (a .s .now))) 0 (λ e. c .if2 .taken (sum ∙ e))))
+    let a = c .before .before .before .before .before .before .before .before .before .before .args in
+    let n = c .before .before .before .before .before .before .before .before .body-length in
+    let sum = c .before .before .checksum in
+    let form = sym (c .before .before .before .before .before .before .wide .ensures .0) ∙ c .before .before .before .before .if1 .left ∙ c .before .before .before .before .before .length-byte .ensures ∙ ap (lengthByte (a .plain)) (n .ensures .0) in
+    let wrong = sum-wrong (a .a .seed) (sum .result) (n .result) (a .s .now) (c .before .before .before .before .before .before .before .before .before .before .pre .1) (n .ensures .0) (sum .ensures) (c .if2 .taken) in
+    sym (tail-sum (a .a) (a .plain) (a .s .now) form ∙ rw (ne-eqb (xorAll (a .a .seed) (take (bodyLength (a .s .now) + 3) (a .s .now))) 0 wrong))
 
 returns-3 : tie.Need-returns-3
 returns-3 c =
-    let a = c .before .before .before .before .before .before .before .before .before .args in
-    let n = c .before .before .before .before .before .before .before .body-length in
-    let sum = sum-of (a .a .seed) (c .before .checksum .result) (n .result) (a .s .now) (n .ensures .0) (c .before .checksum .ensures) in
-    sym (tail-sum (a .a) (a .plain) (a .s .now) (sym (c .before .before .before .before .before .wide .ensures .0) ∙ c .before .before .before .if1 .left ∙ c .before .before .before .before .length-byte .ensures ∙ ap (lengthByte (a .plain)) (n .ensures .0))
-    ∙ rw (eq-eqb (xorAll (a .a .seed) (take (bodyLength (a .s .now) + 3) (a .s .now))) 0 (sym sum ∙ c .if2 .left)))
+    let a = c .before .before .before .before .before .before .before .before .before .before .args in
+    let n = c .before .before .before .before .before .before .before .before .body-length in
+    let sum = c .before .before .checksum in
+    let form = sym (c .before .before .before .before .before .before .wide .ensures .0) ∙ c .before .before .before .before .if1 .left ∙ c .before .before .before .before .before .length-byte .ensures ∙ ap (lengthByte (a .plain)) (n .ensures .0) in
+    let right = sum-right (a .a .seed) (sum .result) (n .result) (a .s .now) (c .before .before .before .before .before .before .before .before .before .before .pre .1) (n .ensures .0) (sum .ensures) (c .if2 .left) in
+    sym (tail-sum (a .a) (a .plain) (a .s .now) form ∙ rw (eq-eqb (xorAll (a .a .seed) (take (bodyLength (a .s .now) + 3) (a .s .now))) 0 right))
 
 pub tail-answer-spec : {M : Type 1} → statement M
 tail-answer-spec =
@@ -74,5 +82,7 @@ tail-answer-spec =
     part-checksum-start
     part-checksum-end
     checksum-requires
+    add-if2
+    shared-slice-read-if2
     returns-2
     returns-3)

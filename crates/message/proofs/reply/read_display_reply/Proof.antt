@@ -15,8 +15,11 @@ starts-with-requires c κs = search needs
 returns : tie.Need-returns
 returns c = record { means = sym (null-answer (c .before .before .before .before .args .s .now) (sym (c .before .starts-with .ensures) ∙ c .if1 .taken)); inside = tt }
 
-read-reply-requires : tie.Need-read-reply-requires
-read-reply-requires c κs = search needs
+judge-requires : tie.Need-judge-requires
+judge-requires c κs = search needs
+
+judged-reply-requires : tie.Need-judged-reply-requires
+judged-reply-requires c κs = search needs
 
 returns-2 : tie.Need-returns-2
 returns-2 c = search needs
@@ -28,5 +31,6 @@ read-display-reply-spec =
     slice-aggregate-starts-with
     starts-with-requires
     returns
-    read-reply-requires
+    judge-requires
+    judged-reply-requires
     returns-2)

@@ -1,4 +1,4 @@
--- `message::reply::read_reply` meets its contract: the parts of the ordered tests, then the fields.
+-- `message::reply::judge` meets its contract: the parts of the ordered tests.
 -- Assumes nothing.
 use mathlib.Core.Path.{_≡_, sym, ap, _∙_, subst}
 use Prim.Native.Nat.{ℕ, _-_, _≤_, _<_}
@@ -11,13 +11,14 @@ use Rattle.message_rules.specs.declared.Direction.the-variants.{Reply}
 use Rattle.message.specs.declared.table.ReplyRow.the-variants as row
 use Rattle.message.specs.declared.table.Shape.{Shape}
 use Rattle.message.specs.Parts.{bodyAnswer}
+use Rattle.message.specs.Table.{shapeOf}
+use Rattle.message_rules.specs.Layout.{layoutOf}
 use Rattle.message_rules.specs.Frame.{bodyLength}
 use Rattle.message.proofs.Parts.{headed, decode-head, decode-empty, decode-unknown, decode-refused, decode-body, body-least}
-use Rattle.message.proofs.Readings.{means-of, reply-refused}
 use Rattle.message.proofs.Rows.{ReplyTold, reply-told}
 use borrow.Author.Needs.{needs}
-use Rattle.message.proofs.reply.read_reply.Statement.{statement}
-use Rattle.message.proofs.reply.read_reply.Tie as tie
+use Rattle.message.proofs.reply.judge.Statement.{statement}
+use Rattle.message.proofs.reply.judge.Tie as tie
 
 head-answer-requires : tie.Need-head-answer-requires
 head-answer-requires c κs = search needs
@@ -26,7 +27,7 @@ returns : tie.Need-returns
 returns c =
     let a = c .before .before .before .args in
     let e = c .before .head-answer .ensures in
-    means-of (decode-head replies (a .a) (a .s .now) (λ z. c .if1 .taken (e ∙ z)) ∙ ap refused (sym e)) (reply-refused (a .s .now) (c .before .head-answer .result))
+    decode-head replies (a .a) (a .s .now) (λ z. c .if1 .taken (e ∙ z)) ∙ ap refused (sym e)
 
 body-length-requires : tie.Need-body-length-requires
 body-length-requires c κs = let h = headed Reply (c .before .before .before .args .a) (c .before .before .before .args .s .now) (sym (c .before .head-answer .ensures) ∙ c .if1 .left) in omega (arith, h .long)
@@ -37,8 +38,7 @@ unread-requires c κs = let h = headed Reply (c .before .before .before .before 
 returns-2 : tie.Need-returns-2
 returns-2 c =
     let a = c .before .before .before .before .before .before .args in
-    means-of (decode-empty replies (a .a) (a .s .now) (sym (c .before .before .before .before .head-answer .ensures) ∙ c .before .before .before .if1 .left) (sym (c .before .before .body-length .ensures .0) ∙ c .before .if2 .taken) ∙ ap refused (sym (c .unread .ensures)))
-    (reply-refused (a .s .now) (c .unread .result))
+    decode-empty replies (a .a) (a .s .now) (sym (c .before .before .before .before .head-answer .ensures) ∙ c .before .before .before .if1 .left) (sym (c .before .before .body-length .ensures .0) ∙ c .before .if2 .taken) ∙ ap refused (sym (c .unread .ensures))
 
 shared-slice-read-find-reply : tie.Need-shared-slice-read-find-reply
 shared-slice-read-find-reply c = let h = headed Reply (c .before .before .before .before .before .before .args .a) (c .before .before .before .before .before .before .args .s .now) (sym (c .before .before .before .before .head-answer .ensures) ∙ c .before .before .before .if1 .left) in omega (arith, h .long)
@@ -58,19 +58,9 @@ returns-3 c =
     let head = sym (c .before .before .before .before .before .before .before .before .before .before .head-answer .ensures) ∙ c .before .before .before .before .before .before .before .before .before .if1 .left in
     let some : 0 < bodyLength (a .s .now) = omega (arith, c .before .before .before .before .before .before .before .before .body-length .ensures .0, c .before .before .before .before .before .before .before .if2 .left) in
     let g = c .before .before .before .kind .given in
-    let told = subst (ReplyTold (getD (c .before .before .before .before .before .before .before .before .before .before .before .before .args .s .now) 2 0)) (g .1) (reply-told (getD (c .before .before .before .before .before .before .before .before .before .before .before .before .args .s .now) 2 0) (c .before .before .before .before .before .find-reply .result) (c .before .before .before .before .before .find-reply .ensures)) in
+    let told = subst (ReplyTold (getD (a .s .now) 2 0)) (g .1) (reply-told (getD (a .s .now) 2 0) (c .before .before .before .before .before .find-reply .result) (c .before .before .before .before .before .find-reply .ensures)) in
     let e = c .before .body-answer .ensures ∙ ap (λ (h : Shape). bodyAnswer (a .a) h (a .s .now)) (told .shape) in
-    means-of (decode-refused replies (a .a) (a .s .now) head some (kind.Reply (g .0 .0)) (told .row) (λ z. c .if3 .taken (e ∙ z)) ∙ ap refused (sym e)) (reply-refused (a .s .now) (c .before .body-answer .result))
-
-fields-requires : tie.Need-fields-requires
-fields-requires c κs =
-    let a = c .before .before .before .before .before .before .before .before .before .before .before .before .args in
-    let head = sym (c .before .before .before .before .before .before .before .before .before .before .head-answer .ensures) ∙ c .before .before .before .before .before .before .before .before .before .if1 .left in
-    let some : 0 < bodyLength (a .s .now) = omega (arith, c .before .before .before .before .before .before .before .before .body-length .ensures .0, c .before .before .before .before .before .before .before .if2 .left) in
-    let g = c .before .before .before .kind .given in
-    let told = subst (ReplyTold (getD (c .before .before .before .before .before .before .before .before .before .before .before .before .args .s .now) 2 0)) (g .1) (reply-told (getD (c .before .before .before .before .before .before .before .before .before .before .before .before .args .s .now) 2 0) (c .before .before .before .before .before .find-reply .result) (c .before .before .before .before .before .find-reply .ensures)) in
-    let h = headed Reply (a .a) (a .s .now) head in
-    (omega (arith, h .long), h .inside, some, subst (λ (x : Shape). x .0 ≤ bodyLength (a .s .now) - 1) (told .shape) (body-least (a .a) (g .0 .1 .0) (a .s .now) (sym (c .before .body-answer .ensures) ∙ c .if3 .left)))
+    decode-refused replies (a .a) (a .s .now) head some (kind.Reply (g .0 .0)) (told .row) (λ z. c .if3 .taken (e ∙ z)) ∙ ap refused (sym e)
 
 enum-told : tie.Need-enum-told
 enum-told c = search needs
@@ -80,13 +70,15 @@ unread-requires-2 c κs = let h = headed Reply (c .before .before .before .befor
 
 returns-4 : tie.Need-returns-4
 returns-4 c =
-    let a = c .before .before .before .before .before .before .before .before .before .before .before .before .before .args in
-    let head = sym (c .before .before .before .before .before .before .before .before .before .before .before .head-answer .ensures) ∙ c .before .before .before .before .before .before .before .before .before .before .if1 .left in
-    let some : 0 < bodyLength (a .s .now) = omega (arith, c .before .before .before .before .before .before .before .before .before .body-length .ensures .0, c .before .before .before .before .before .before .before .before .if2 .left) in
-    let g = c .before .before .before .before .kind .given in
-    let told = subst (ReplyTold (getD (c .before .before .before .before .before .before .before .before .before .before .before .before .before .args .s .now) 2 0)) (g .1) (reply-told (getD (c .before .before .before .before .before .before .before .before .before .before .before .before .before .args .s .now) 2 0) (c .before .before .before .before .before .before .find-reply .result) (c .before .before .before .before .before .before .find-reply .ensures)) in
-    let e = c .before .before .body-answer .ensures ∙ ap (λ (h : Shape). bodyAnswer (a .a) h (a .s .now)) (told .shape) in
-    means-of (decode-body replies (a .a) (a .s .now) head some (kind.Reply (g .0 .0)) (told .row) (sym e ∙ c .before .if3 .left)) (c .fields .ensures)
+    let a = c .before .before .before .before .before .before .before .before .before .before .before .before .args in
+    let head = sym (c .before .before .before .before .before .before .before .before .before .before .head-answer .ensures) ∙ c .before .before .before .before .before .before .before .before .before .if1 .left in
+    let some : 0 < bodyLength (a .s .now) = omega (arith, c .before .before .before .before .before .before .before .before .body-length .ensures .0, c .before .before .before .before .before .before .before .if2 .left) in
+    let g = c .before .before .before .kind .given in
+    let told = subst (ReplyTold (getD (a .s .now) 2 0)) (g .1) (reply-told (getD (a .s .now) 2 0) (c .before .before .before .before .before .find-reply .result) (c .before .before .before .before .before .find-reply .ensures)) in
+    let e = c .before .body-answer .ensures ∙ ap (λ (h : Shape). bodyAnswer (a .a) h (a .s .now)) (told .shape) in
+    let h = headed Reply (a .a) (a .s .now) head in
+    let least = body-least (a .a) (shapeOf (layoutOf (kind.Reply (g .0 .0)))) (a .s .now) (sym e ∙ c .if3 .left) in
+    ((omega (arith, h .long), h .inside, some, least), decode-body replies (a .a) (a .s .now) head some (kind.Reply (g .0 .0)) (told .row) (sym e ∙ c .if3 .left))
 
 returns-5 : tie.Need-returns-5
 returns-5 c =
@@ -94,10 +86,10 @@ returns-5 c =
     let head = sym (c .before .before .before .before .before .before .before .before .head-answer .ensures) ∙ c .before .before .before .before .before .before .before .if1 .left in
     let some : 0 < bodyLength (a .s .now) = omega (arith, c .before .before .before .before .before .before .body-length .ensures .0, c .before .before .before .before .before .if2 .left) in
     let told = subst (ReplyTold (getD (a .s .now) 2 0)) (c .before .enum-told .given .1) (reply-told (getD (a .s .now) 2 0) (c .before .before .before .find-reply .result) (c .before .before .before .find-reply .ensures)) in
-    means-of (decode-unknown replies (a .a) (a .s .now) head some told ∙ ap refused (sym (c .unread2 .ensures))) (reply-refused (a .s .now) (c .unread2 .result))
+    decode-unknown replies (a .a) (a .s .now) head some told ∙ ap refused (sym (c .unread2 .ensures))
 
-pub read-reply-spec : {M : Type 1} → statement M
-read-reply-spec =
+pub judge-spec : {M : Type 1} → statement M
+judge-spec =
     tie.close
     (tie.spec
     head-answer-requires
@@ -110,7 +102,6 @@ read-reply-spec =
     enum-known-kind
     body-answer-requires
     returns-3
-    fields-requires
     enum-told
     unread-requires-2
     returns-4

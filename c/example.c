@@ -45,18 +45,18 @@ static void transfer(void) {
     const uint8_t text[] = "(vcp(10 12))";
     uint8_t buffer[32] = {0};
     uint8_t out[DDCCI_OUTPUT_ROOM];
-    ddcci_moved t = ddcci_begin(DDCCI_CAPABILITIES, buffer, sizeof buffer, 100);
-    while (t.transfer.state == DDCCI_RUNNING) {
-        size_t at = t.transfer.offset;
+    ddcci_transfer t = ddcci_begin(DDCCI_CAPABILITIES, buffer, sizeof buffer, 100);
+    while (DDCCI_STATE(t) == DDCCI_RUNNING) {
+        size_t at = t.offset;
         size_t n = 12 - at < 5 ? 12 - at : 5;
         ddcci_built reply = ddcci_build_text_fragment((uint16_t)at, text + at, n, out, sizeof out);
-        t = ddcci_receive(t.transfer, buffer, sizeof buffer, out, reply.length);
+        t = ddcci_receive(t, buffer, sizeof buffer, out, reply.length);
         if (at == 0) {
-            t = ddcci_receive(t.transfer, buffer, sizeof buffer, out, reply.length);
+            t = ddcci_receive(t, buffer, sizeof buffer, out, reply.length);
             printf("the same fragment again: answer %u\n", t.answer);
         }
     }
-    printf("state %u after %u exchanges: %.*s\n", t.transfer.state, t.transfer.count, (int)t.transfer.offset, (const char *)buffer);
+    printf("state %u after %u exchanges: %.*s\n", DDCCI_STATE(t), t.count, (int)t.offset, (const char *)buffer);
 }
 
 int main(void) {

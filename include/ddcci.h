@@ -19,7 +19,7 @@ extern "C" {
 /* The texts of a transfer. */
 #define DDCCI_CAPABILITIES 0
 #define DDCCI_TABLE 1
-/* The states of a transfer. */
+/* The states of a transfer, by DDCCI_STATE. */
 #define DDCCI_RUNNING 0
 #define DDCCI_DONE 1
 #define DDCCI_EXHAUSTED 2
@@ -64,21 +64,23 @@ typedef struct {
     size_t position;
 } ddcci_reading;
 
-/* A transfer. `size` is the length of the buffer that it was begun with. Only begin and receive make one; any other is judged like any, never trusted. */
+/* A transfer: the length of the buffer that it was begun with; the offset reached; its budget and count of exchanges; its phase, which is the state, and 4 more for the table; and the answer of
+ * the call that made it. Only begin and receive make one; any other is judged like any, never trusted. */
 typedef struct {
     size_t size;
     uint16_t offset;
     uint16_t budget;
     uint16_t count;
-    uint8_t kind;
-    uint8_t state;
+    uint8_t phase;
+    uint8_t answer;
 } ddcci_transfer;
 
-/* A transfer afterwards, and the answer. */
-typedef struct {
-    ddcci_transfer transfer;
-    uint8_t answer;
-} ddcci_moved;
+/* The state and the text of a transfer that a call has made. */
+#define DDCCI_STATE(transfer) ((transfer).phase % 4)
+#define DDCCI_TEXT(transfer) ((transfer).phase / 4)
+
+/* The exclusive or of the bytes with a seed: 6E for a request, 50 for a reply. It is 0 over a whole message. */
+uint8_t ddcci_checksum(uint8_t seed, const uint8_t *bytes, size_t bytes_len);
 
 /* Reads a request: answers 0, or 2, 3, 4, 5, 6, 7 in that order. The slice is the whole message. Writes nothing. */
 ddcci_request_read ddcci_read_request(const uint8_t *message, size_t message_len);
@@ -106,14 +108,14 @@ ddcci_reading ddcci_read_capabilities(const uint8_t *text, size_t text_len, uint
                                       uint16_t *parents, size_t parents_len, uint8_t *groups, size_t groups_len);
 
 /* Begins a transfer of a text into a buffer: answers 0, 18 for a budget above 65,535, or 6 for an unknown text; a refused one is closed. Writes nothing. */
-ddcci_moved ddcci_begin(uint8_t kind, const uint8_t *buffer, size_t buffer_len, size_t budget);
+ddcci_transfer ddcci_begin(uint8_t kind, const uint8_t *buffer, size_t buffer_len, size_t budget);
 
 /* Builds the request for the offset that the transfer has reached: answers 0, 16 if it is closed, 1 for an output under 38 bytes, or 6 for an unknown text. */
 ddcci_built ddcci_request(ddcci_transfer transfer, uint8_t *out, size_t out_len);
 
 /* Receives the bytes that came back, or none: answers 0 and puts the fragment's data at the offset reached; 16 if the transfer is closed; 1 for another buffer's length; the reader's number; 10 for
  * another fragment; 11 for data past the room, which closes the transfer; 6 for an unknown text. */
-ddcci_moved ddcci_receive(ddcci_transfer transfer, uint8_t *buffer, size_t buffer_len, const uint8_t *reply, size_t reply_len);
+ddcci_transfer ddcci_receive(ddcci_transfer transfer, uint8_t *buffer, size_t buffer_len, const uint8_t *reply, size_t reply_len);
 
 #ifdef __cplusplus
 }

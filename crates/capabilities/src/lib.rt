@@ -25,9 +25,13 @@ const SPACE: u8 = 0x20;
 
 const FIRST_LETTER: u8 = 0x21;
 
+const BEFORE_OPEN: u8 = 0x27;
+
 const OPEN: u8 = 0x28;
 
 const CLOSE: u8 = 0x29;
+
+const BEHIND_CLOSE: u8 = 0x2a;
 
 const LAST_LETTER: u8 = 0x7e;
 
@@ -49,9 +53,8 @@ fn is_letter(b: u8) -> bool
     ensures { λ r. ⌜ r ≡ isLetter (kindOf b) ⌝ }
 {
     match b {
-        OPEN => false,
-        CLOSE => false,
-        FIRST_LETTER..=LAST_LETTER => true,
+        BEHIND_CLOSE..=LAST_LETTER => true,
+        FIRST_LETTER..=BEFORE_OPEN => true,
         _ => false,
     }
 }

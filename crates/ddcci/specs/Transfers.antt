@@ -1,5 +1,5 @@
 -- A transfer as numbers, and the answers of the exported calls from those of the transfer's rules.
-use Prim.Native.Nat.{ℕ}
+use Prim.Native.Nat.{ℕ, _+_, _/_, _%_}
 use mathlib.Core.Path.{_≡_}
 use mathlib.Core.Bool.{cond}
 use mathlib.Core.List.{List}
@@ -15,7 +15,6 @@ use Rattle.transfer_rules.specs.declared.State.the-variants.{Running, Done, Exh
 use Rattle.transfer_rules.specs.declared.Transfer.{Transfer}
 use Rattle.ddcci.specs.declared.BuiltNumbers.{BuiltNumbers}
 use Rattle.ddcci.specs.declared.transfers.TransferNumbers.{TransferNumbers}
-use Rattle.ddcci.specs.declared.transfers.MovedNumbers.{MovedNumbers}
 use Rattle.ddcci.specs.declared.transfers.TextNumber.{TextNumber}
 use Rattle.ddcci.specs.declared.transfers.TextNumber.the-variants.{Known, Unknown}
 
@@ -31,9 +30,10 @@ stateNumber Overflowed = 3
 abbrev pub stateOf : ℕ → State
 stateOf n = cond (eqb n 0) Running (cond (eqb n 1) Done (cond (eqb n 2) Exhausted Overflowed))
 
-abbrev pub kindNumber : TextKind → ℕ
-kindNumber Capabilities = 0
-kindNumber Table = 1
+-- a text and its state in one number: 4 more for the table
+abbrev pub phaseNumber : TextKind → State → ℕ
+phaseNumber Capabilities s = stateNumber s
+phaseNumber Table s = 4 + stateNumber s
 
 -- the text that a number names
 abbrev pub textOf : ℕ → TextNumber
@@ -44,53 +44,56 @@ abbrev pub byText : {A : Type 0} → TextNumber → (TextKind → A) → A → A
 byText (Known t) f other = f t
 byText Unknown f other = other
 
-abbrev pub numbersOf : Transfer → TransferNumbers
-numbersOf t = record {
+abbrev pub numbersOf : Transfer → (answer : ℕ) → TransferNumbers
+numbersOf t answer = record {
   size = t .size;
   offset = t .reached .0;
   budget = t .budget;
   count = t .count;
-  kind = kindNumber (t .kind);
-  state = stateNumber (t .state);
+  phase = phaseNumber (t .kind) (t .state);
+  answer = answer;
 }
 
 abbrev pub transferOf : TextKind → TransferNumbers → Transfer
-transferOf k n = record { kind = k; state = stateOf (n .state); reached = record { 0 = n .offset }; size = n .size; budget = n .budget; count = n .count }
+transferOf k n = record { kind = k; state = stateOf (n .phase % 4); reached = record { 0 = n .offset }; size = n .size; budget = n .budget; count = n .count }
 
 -- ---- the calls
 
-abbrev pub beganNumbers : Begun → MovedNumbers
-beganNumbers b = record { transfer = numbersOf (b .transfer); answer = b .answer }
+abbrev pub beganNumbers : Begun → TransferNumbers
+beganNumbers b = numbersOf (b .transfer) (b .answer)
 
--- the transfer of an unknown text: closed
-abbrev pub unknownText : ℕ → TransferNumbers
-unknownText k = record { size = 0; offset = 0; budget = 0; count = 0; kind = k; state = stateNumber Exhausted }
+-- the transfer of an unknown text, which no call moves: an unknown number is refused as an unknown command is, 6
+abbrev pub unknownText : TransferNumbers
+unknownText = record { size = 0; offset = 0; budget = 0; count = 0; phase = 8; answer = unknownCommand }
 
--- a text by its number: an unknown number is refused as an unknown command is, 6
-abbrev pub beginNumbers : (kind size budget : ℕ) → MovedNumbers
-beginNumbers k size budget = byText (textOf k) (λ t. beganNumbers (rules.begin t size budget)) (record { transfer = unknownText k; answer = unknownCommand })
+abbrev pub beginNumbers : (kind size budget : ℕ) → TransferNumbers
+beginNumbers k size budget = byText (textOf k) (λ t. beganNumbers (rules.begin t size budget)) unknownText
 
 -- request: the answer, the length and every byte of the output
-abbrev pub requestOutcome : ℕ → TransferNumbers → List ℕ → RequestOutcome
-requestOutcome k n out = byText (textOf k) (λ t. rules.request (transferOf t n) out) (record { answer = unknownCommand; length = 0; output = out })
+abbrev pub requestOutcome : TransferNumbers → List ℕ → RequestOutcome
+requestOutcome n out = byText (textOf (n .phase / 4)) (λ t. rules.request (transferOf t n) out) (record { answer = unknownCommand; length = 0; output = out })
 
 pub record Requests (x : RequestOutcome) (r : BuiltNumbers) (out : List ℕ) : Type 0 where
   pub answer : r .answer ≡ x .answer
   pub length : r .length ≡ x .length
   pub output : out ≡ x .output
 
--- receive: the answer, the transfer and every byte of the buffer
+-- receive: the transfer with its answer, and every byte of the buffer
 pub record Received : Type 0 where
-  pub moved : MovedNumbers
+  pub numbers : TransferNumbers
   pub buffer : List ℕ
 
 abbrev pub receivedNumbers : ReceiveOutcome → Received
-receivedNumbers x = record { moved = record { transfer = numbersOf (x .transfer); answer = x .answer }; buffer = x .buffer }
+receivedNumbers x = record { numbers = numbersOf (x .transfer) (x .answer); buffer = x .buffer }
 
-abbrev pub receiveNumbers : ℕ → TransferNumbers → (buffer came : List ℕ) → Received
-receiveNumbers k n buffer came =
-    byText (textOf k) (λ t. receivedNumbers (rules.receive (transferOf t n) buffer came)) (record { moved = record { transfer = n; answer = unknownCommand }; buffer = buffer })
+-- the same transfer, refused
+abbrev pub unmoved : TransferNumbers → TransferNumbers
+unmoved n = record { size = n .size; offset = n .offset; budget = n .budget; count = n .count; phase = n .phase; answer = unknownCommand }
 
-pub record Receives (x : Received) (r : MovedNumbers) (buffer : List ℕ) : Type 0 where
-  pub moved : r ≡ x .moved
+abbrev pub receiveNumbers : TransferNumbers → (buffer came : List ℕ) → Received
+receiveNumbers n buffer came =
+    byText (textOf (n .phase / 4)) (λ t. receivedNumbers (rules.receive (transferOf t n) buffer came)) (record { numbers = unmoved n; buffer = buffer })
+
+pub record Receives (x : Received) (r : TransferNumbers) (buffer : List ℕ) : Type 0 where
+  pub numbers : r ≡ x .numbers
   pub lent : buffer ≡ x .buffer

@@ -5,6 +5,7 @@ pub mod request;
 pub mod transfers;
 
 ghost use mathlib.Core.Path.{_≡_};
+ghost use Rattle.checksum.specs.Xor.{xorAll};
 ghost use Rattle.ddcci.specs.Numbers.{builtNumbers};
 use message::Built;
 use message_rules::answer;
@@ -29,4 +30,12 @@ pub(crate) fn built_numbers(built: Built) -> BuiltNumbers
             length: 0,
         },
     }
+}
+
+// The exclusive or of the bytes with a seed.
+#[no_mangle]
+pub extern "C" fn ddcci_checksum(seed: u8, bytes: &[u8]) -> u8
+    ensures { λ r. ⌜ r ≡ xorAll seed (now (bytes .entry)) ⌝ }
+{
+    checksum::checksum(seed, bytes)
 }

@@ -1,33 +1,33 @@
 // Transfers for Rust and C: a transfer's state as numbers. A state that no call has made is judged like any other, never trusted.
 ghost use mathlib.Core.Path.{_≡_};
+ghost use Prim.Native.Nat.{_<_};
 ghost use lib.ListN.{length};
-ghost use Rattle.ddcci.specs.Transfers.{stateOf, textOf, stateNumber, kindNumber, transferOf, numbersOf, beganNumbers, beginNumbers, requestOutcome, receiveNumbers, receivedNumbers, Requests, Receives};
+ghost use Rattle.ddcci.specs.Transfers.{stateOf, textOf, stateNumber, phaseNumber, transferOf, numbersOf, beginNumbers, requestOutcome, receiveNumbers, receivedNumbers, Requests, Receives};
 ghost use Rattle.transfer_rules.specs.Transfer as rules;
 use crate::BuiltNumbers;
 use message_rules::TextKind;
 use message_rules::TextOffset;
 use message_rules::answer;
-use transfer_rules::Begun;
 use transfer_rules::State;
 use transfer_rules::Transfer;
 
-// A transfer: the length of the buffer that it was begun with; the offset reached; its budget and count; the text (0 the capabilities string, 1 the table); and its state (0 running, 1 done, 2 exhausted, 3 overflowed).
+// A transfer: the length of the buffer that it was begun with; the offset reached; its budget and count; its phase; and the answer of the call that made it. The phase is the state (0 running, 1 done, 2 exhausted, 3 overflowed) of
+// the capabilities string, and 4 more of the table. Sixteen bytes in all, so that it goes in and out in registers.
 #[repr(C)]
 pub struct TransferNumbers {
     pub size: usize,
     pub offset: u16,
     pub budget: u16,
     pub count: u16,
-    pub kind: u8,
-    pub state: u8,
-}
-
-// An answer number, with the transfer afterwards.
-#[repr(C)]
-pub struct MovedNumbers {
-    pub transfer: TransferNumbers,
+    pub phase: u8,
     pub answer: u8,
 }
+
+// The first phase of the table, which is how many states there are.
+const TABLE_PHASES: u8 = 4;
+
+// The phase of a transfer whose text is unknown.
+const NO_PHASE: u8 = 8;
 
 // A number above 3 is no state that runs.
 fn state_of(number: u8) -> State
@@ -42,7 +42,7 @@ fn state_of(number: u8) -> State
 }
 
 fn state_number(state: State) -> u8
-    ensures { λ r. ⌜ r ≡ stateNumber state ⌝ }
+    ensures { λ r. ⌜ (r ≡ stateNumber state) × (r < 4) ⌝ }
 {
     match state {
         State::Running => 0,
@@ -52,12 +52,12 @@ fn state_number(state: State) -> u8
     }
 }
 
-fn kind_number(kind: TextKind) -> u8
-    ensures { λ r. ⌜ r ≡ kindNumber kind ⌝ }
+fn phase_number(kind: TextKind, state: State) -> u8
+    ensures { λ r. ⌜ r ≡ phaseNumber kind state ⌝ }
 {
     match kind {
-        TextKind::Capabilities => 0,
-        TextKind::Table => 1,
+        TextKind::Capabilities => state_number(state),
+        TextKind::Table => TABLE_PHASES + state_number(state),
     }
 }
 
@@ -80,7 +80,7 @@ fn text_of(number: u8) -> TextNumber
 fn transfer_of(kind: TextKind, n: TransferNumbers) -> Transfer
     ensures { λ r. ⌜ r ≡ transferOf kind n ⌝ }
 {
-    let state = state_of(n.state);
+    let state = state_of(n.phase % TABLE_PHASES);
     Transfer {
         kind: kind,
         state: state,
@@ -91,8 +91,8 @@ fn transfer_of(kind: TextKind, n: TransferNumbers) -> Transfer
     }
 }
 
-fn numbers_of(t: Transfer) -> TransferNumbers
-    ensures { λ r. ⌜ r ≡ numbersOf t ⌝ }
+fn numbers_of(t: Transfer, answer: u8) -> TransferNumbers
+    ensures { λ r. ⌜ r ≡ numbersOf t answer ⌝ }
 {
     let kind = t.kind;
     let state = t.state;
@@ -101,37 +101,27 @@ fn numbers_of(t: Transfer) -> TransferNumbers
         offset: t.reached.0,
         budget: t.budget,
         count: t.count,
-        kind: kind_number(kind),
-        state: state_number(state),
-    }
-}
-
-fn began_numbers(begun: Begun) -> MovedNumbers
-    ensures { λ r. ⌜ r ≡ beganNumbers begun ⌝ }
-{
-    let transfer = numbers_of(begun.transfer);
-    MovedNumbers {
-        transfer: transfer,
-        answer: begun.answer,
+        phase: phase_number(kind, state),
+        answer: answer,
     }
 }
 
 // Begins a transfer; an unknown text is 6, with a transfer that is closed.
 #[no_mangle]
-pub extern "C" fn ddcci_begin(kind: u8, buffer: &[u8], budget: usize) -> MovedNumbers
+pub extern "C" fn ddcci_begin(kind: u8, buffer: &[u8], budget: usize) -> TransferNumbers
     ensures { λ r. ⌜ r ≡ beginNumbers kind (length (now (buffer .entry))) budget ⌝ }
 {
     match text_of(kind) {
-        TextNumber::Known(text) => began_numbers(transfer::begin(text, buffer, budget)),
-        TextNumber::Unknown => MovedNumbers {
-            transfer: TransferNumbers {
-                size: 0,
-                offset: 0,
-                budget: 0,
-                count: 0,
-                kind: kind,
-                state: 2,
-            },
+        TextNumber::Known(text) => {
+            let begun = transfer::begin(text, buffer, budget);
+            numbers_of(begun.transfer, begun.answer)
+        }
+        TextNumber::Unknown => TransferNumbers {
+            size: 0,
+            offset: 0,
+            budget: 0,
+            count: 0,
+            phase: NO_PHASE,
             answer: answer::UNKNOWN_COMMAND,
         },
     }
@@ -151,9 +141,9 @@ fn request_of(kind: TextKind, n: TransferNumbers, out: &mut [u8]) -> BuiltNumber
 // Builds the request for the offset that the transfer has reached; an unknown text is 6, and nothing is written.
 #[no_mangle]
 pub extern "C" fn ddcci_request(n: TransferNumbers, out: &mut [u8]) -> BuiltNumbers
-    ensures { λ r. ⌜ Requests (requestOutcome (n .kind) n (now (out .entry))) r (now (out .exit)) ⌝ }
+    ensures { λ r. ⌜ Requests (requestOutcome n (now (out .entry))) r (now (out .exit)) ⌝ }
 {
-    match text_of(n.kind) {
+    match text_of(n.phase / TABLE_PHASES) {
         TextNumber::Known(text) => request_of(text, n, out),
         TextNumber::Unknown => BuiltNumbers {
             answer: answer::UNKNOWN_COMMAND,
@@ -163,26 +153,35 @@ pub extern "C" fn ddcci_request(n: TransferNumbers, out: &mut [u8]) -> BuiltNumb
 }
 
 // What a transfer of this text receives.
-fn receive_of(kind: TextKind, n: TransferNumbers, buffer: &mut [u8], reply: &[u8]) -> MovedNumbers
+fn receive_of(
+    kind: TextKind,
+    n: TransferNumbers,
+    buffer: &mut [u8],
+    reply: &[u8],
+) -> TransferNumbers
     ensures { λ r. ⌜ Receives (receivedNumbers (rules.receive (transferOf kind n) (now (buffer .entry)) (now (reply .entry)))) r (now (buffer .exit)) ⌝ }
 {
     let received = transfer::receive(transfer_of(kind, n), buffer, reply);
-    let transfer = numbers_of(received.transfer);
-    MovedNumbers {
-        transfer: transfer,
-        answer: received.answer,
-    }
+    numbers_of(received.transfer, received.answer)
 }
 
-// Receives the bytes that came back; an unknown text is 6, and nothing changes.
+// Receives the bytes that came back; an unknown text is 6, and nothing else changes.
 #[no_mangle]
-pub extern "C" fn ddcci_receive(n: TransferNumbers, buffer: &mut [u8], reply: &[u8]) -> MovedNumbers
-    ensures { λ r. ⌜ Receives (receiveNumbers (n .kind) n (now (buffer .entry)) (now (reply .entry))) r (now (buffer .exit)) ⌝ }
+pub extern "C" fn ddcci_receive(
+    n: TransferNumbers,
+    buffer: &mut [u8],
+    reply: &[u8],
+) -> TransferNumbers
+    ensures { λ r. ⌜ Receives (receiveNumbers n (now (buffer .entry)) (now (reply .entry))) r (now (buffer .exit)) ⌝ }
 {
-    match text_of(n.kind) {
+    match text_of(n.phase / TABLE_PHASES) {
         TextNumber::Known(text) => receive_of(text, n, buffer, reply),
-        TextNumber::Unknown => MovedNumbers {
-            transfer: n,
+        TextNumber::Unknown => TransferNumbers {
+            size: n.size,
+            offset: n.offset,
+            budget: n.budget,
+            count: n.count,
+            phase: n.phase,
             answer: answer::UNKNOWN_COMMAND,
         },
     }

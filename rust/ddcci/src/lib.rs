@@ -8,6 +8,6 @@ mod refusal;
 mod transfer;
 
 pub use capabilities::{read_into, Capabilities, Node, Nodes, RefusedAt, MOST_NODES};
-pub use message::{Message, Reply, Request, MOST_FRAGMENT, MOST_WRITTEN, OUTPUT_ROOM};
+pub use message::{checksum, Message, Reply, Request, MOST_FRAGMENT, MOST_WRITTEN, OUTPUT_ROOM};
 pub use refusal::Refusal;
 pub use transfer::{State, TextKind, Transfer};

@@ -12,6 +12,16 @@ pub const MOST_WRITTEN: usize = 31;
 /// The most data bytes of a fragment.
 pub const MOST_FRAGMENT: usize = 32;
 
+/// The exclusive-or of bytes with a seed: 6E for a request, 50 for a reply. It is 0 over a whole message.
+///
+/// ```
+/// assert_eq!(ddcci::checksum(0x6E, &[0x51, 0x82, 0x01, 0x10, 0xAC]), 0);
+/// ```
+#[inline]
+pub fn checksum(seed: u8, bytes: &[u8]) -> u8 {
+    unsafe { raw::ddcci_checksum(seed, bytes.as_ptr(), bytes.len()) }
+}
+
 /// A message's bytes, as they go over the wire behind the I2C address.
 #[derive(Clone, Copy, PartialEq, Eq)]
 pub struct Message {

@@ -99,14 +99,7 @@ pub struct Transfer {
     pub offset: u16,
     pub budget: u16,
     pub count: u16,
-    pub kind: u8,
-    pub state: u8,
-}
-
-#[repr(C)]
-#[derive(Clone, Copy)]
-pub struct Moved {
-    pub transfer: Transfer,
+    pub phase: u8,
     pub answer: u8,
 }
 
@@ -124,7 +117,9 @@ extern "C" {
         groups_len: usize,
     ) -> Reading;
 
-    pub fn ddcci_begin(kind: u8, buffer: *const u8, buffer_len: usize, budget: usize) -> Moved;
+    pub fn ddcci_checksum(seed: u8, bytes: *const u8, bytes_len: usize) -> u8;
+
+    pub fn ddcci_begin(kind: u8, buffer: *const u8, buffer_len: usize, budget: usize) -> Transfer;
     pub fn ddcci_request(transfer: Transfer, out: *mut u8, out_len: usize) -> Built;
     pub fn ddcci_receive(
         transfer: Transfer,
@@ -132,5 +127,5 @@ extern "C" {
         buffer_len: usize,
         reply: *const u8,
         reply_len: usize,
-    ) -> Moved;
+    ) -> Transfer;
 }

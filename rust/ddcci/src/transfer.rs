@@ -55,9 +55,9 @@ pub struct Transfer<'a> {
 impl<'a> Transfer<'a> {
     /// Begins a transfer into a buffer, with a budget of exchanges up to 65,535.
     pub fn begin(kind: TextKind, buffer: &'a mut [u8], budget: usize) -> Result<Transfer<'a>, Refusal> {
-        let r = unsafe { raw::ddcci_begin(kind as u8, buffer.as_ptr(), buffer.len(), budget) };
-        Refusal::check(r.answer)?;
-        Ok(Transfer { numbers: r.transfer, buffer })
+        let numbers = unsafe { raw::ddcci_begin(kind as u8, buffer.as_ptr(), buffer.len(), budget) };
+        Refusal::check(numbers.answer)?;
+        Ok(Transfer { numbers, buffer })
     }
 
     /// The request for the offset reached.
@@ -77,7 +77,7 @@ impl<'a> Transfer<'a> {
     /// Receives the bytes that came back, or none. A refusal changes nothing but the count, and closes the transfer where its budget is used up or the text is too long.
     #[inline]
     pub fn receive(&mut self, reply: &[u8]) -> Result<(), Refusal> {
-        let r = unsafe {
+        self.numbers = unsafe {
             raw::ddcci_receive(
                 self.numbers,
                 self.buffer.as_mut_ptr(),
@@ -86,14 +86,13 @@ impl<'a> Transfer<'a> {
                 reply.len(),
             )
         };
-        self.numbers = r.transfer;
-        Refusal::check(r.answer)
+        Refusal::check(self.numbers.answer)
     }
 
     /// Whether it runs, or how it closed.
     #[inline]
     pub fn state(&self) -> State {
-        match self.numbers.state {
+        match self.numbers.phase % 4 {
             0 => State::Running,
             1 => State::Done,
             2 => State::Exhausted,

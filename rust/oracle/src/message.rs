@@ -127,7 +127,7 @@ pub enum Reply<'a> {
 
 /// The exclusive-or of all bytes, eight at a time.
 #[inline]
-fn xor(bytes: &[u8]) -> u8 {
+pub fn xor(bytes: &[u8]) -> u8 {
     let (words, tail) = bytes.as_chunks::<8>();
     let mut wide = words
         .iter()

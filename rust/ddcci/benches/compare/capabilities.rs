@@ -4,25 +4,26 @@ use std::hint::black_box;
 
 const ROOM: usize = 512;
 
-struct Lent {
-    starts: [u16; ROOM],
-    lengths: [u16; ROOM],
-    parents: [u16; ROOM],
-    groups: [u8; ROOM],
+/// Lent buffers.
+pub struct Lent {
+    pub starts: [u16; ROOM],
+    pub lengths: [u16; ROOM],
+    pub parents: [u16; ROOM],
+    pub groups: [u8; ROOM],
 }
 
 impl Lent {
-    fn new() -> Lent {
+    pub fn new() -> Lent {
         Lent { starts: [0; ROOM], lengths: [0; ROOM], parents: [0; ROOM], groups: [0; ROOM] }
     }
 }
 
-/// A string in the style of a monitor's, of about this length.
+/// A string in the style of a monitor's, of about this length and at most 512 words.
 pub fn text(length: usize) -> Vec<u8> {
     let mut text = b"(prot(monitor)type(LCD)model(P2419H)cmds(01 02 03 07 0C E3 F3)vcp(".to_vec();
     let mut code = 0u32;
     while text.len() + 40 < length {
-        let words = if length > 2000 { "1234567890ABCDE " } else { "" };
+        let words = if length > 2000 { "1234567890ABCDEFGHIJKLMN " } else { "" };
         text.extend(format!("{:02X} {words}", code % 256).bytes());
         if code % 7 == 0 {
             text.extend(format!("{:02X}(01 02 04) ", (code * 3) % 256).bytes());
@@ -31,6 +32,69 @@ pub fn text(length: usize) -> Vec<u8> {
     }
     text.extend(b"DF)mccs_ver(2.1)mswhql(1))");
     text
+}
+
+/// A node as one writes it.
+struct Node {
+    length: u16,
+    group: bool,
+    _start: u16,
+    _parent: u16,
+}
+
+#[derive(Clone, Copy)]
+enum State {
+    Before,
+    Free,
+    Word,
+    Gap,
+    After,
+}
+
+/// A reader as one writes it: one loop over the bytes, a state, and the nodes in a vector.
+#[inline(never)]
+fn idiomatic(text: &[u8]) -> Result<Vec<Node>, (u8, usize)> {
+    let mut nodes: Vec<Node> = Vec::new();
+    let mut open: Vec<u16> = Vec::new();
+    let mut state = State::Before;
+    for (at, &byte) in text.iter().enumerate() {
+        state = match (state, byte) {
+            (State::Before, b'(') => {
+                open.push(65535);
+                State::Free
+            }
+            (State::Word | State::Gap, b'(') => {
+                if open.len() == 8 {
+                    return Err((15, at));
+                }
+                open.push(nodes.len() as u16 - 1);
+                nodes.last_mut().unwrap().group = true;
+                State::Free
+            }
+            (State::Free | State::Word | State::Gap, b')') => {
+                open.pop();
+                if open.is_empty() { State::After } else { State::Free }
+            }
+            (State::Free, b' ') => State::Free,
+            (State::Word | State::Gap, b' ') => State::Gap,
+            (State::Word, 0x21..=0x7E) => {
+                nodes.last_mut().unwrap().length += 1;
+                State::Word
+            }
+            (State::Free | State::Gap, 0x21..=0x7E) => {
+                if nodes.len() == ROOM {
+                    return Err((14, at));
+                }
+                nodes.push(Node { length: 1, group: false, _start: at as u16, _parent: *open.last().unwrap() });
+                State::Word
+            }
+            _ => return Err((13, at)),
+        };
+    }
+    match state {
+        State::After => Ok(nodes),
+        _ => Err((13, text.len())),
+    }
 }
 
 pub fn run() {
@@ -43,5 +107,13 @@ pub fn run() {
             || oracle::capabilities::read_one_pass(black_box(&text), &mut b.starts, &mut b.lengths, &mut b.parents, &mut b.groups),
         );
         line(&format!("capabilities string of {} bytes", text.len()), times);
+        let nodes = ddcci::read_into(&text, &mut a.starts, &mut a.lengths, &mut a.parents, &mut a.groups).unwrap();
+        assert_eq!(idiomatic(&text).unwrap().len(), nodes);
+        let times = both(
+            2_000_000 / length,
+            || ddcci::read_into(black_box(&text), &mut a.starts, &mut a.lengths, &mut a.parents, &mut a.groups),
+            || idiomatic(black_box(&text)),
+        );
+        line("  beside a reader with a state and a vector", times);
     }
 }

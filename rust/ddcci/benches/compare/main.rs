@@ -1,12 +1,16 @@
 //! Paneknoll's proved functions beside the oracle's, in one run: `cargo bench`. Each line is what is measured, Paneknoll, the oracle, and the ratio of the two.
 mod capabilities;
+mod checksum;
+mod installed;
 mod measure;
 mod messages;
 mod transfers;
 
 fn main() {
     println!("{:<44} {:>13} {:>13}   ratio", "", "Paneknoll", "oracle");
+    checksum::run();
     messages::run();
     capabilities::run();
+    installed::run();
     transfers::run();
 }

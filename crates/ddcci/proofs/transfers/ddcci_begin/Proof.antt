@@ -3,7 +3,6 @@
 use mathlib.Core.Path.{sym, ap, _∙_}
 use lib.ListN.{length}
 use Rattle.transfer_rules.specs.Transfer as rules
-use Rattle.message_rules.specs.Answer.{unknownCommand}
 use Rattle.ddcci.specs.Transfers.{beganNumbers, unknownText}
 use Rattle.ddcci.proofs.Texts.{text-known, text-unknown}
 use borrow.Author.Needs.{needs}
@@ -19,8 +18,8 @@ enum-known-text c = search needs
 begin-requires : tie.Need-begin-requires
 begin-requires c κs = search needs
 
-began-numbers-requires : tie.Need-began-numbers-requires
-began-numbers-requires c κs = search needs
+numbers-of-requires : tie.Need-numbers-of-requires
+numbers-of-requires c κs = search needs
 
 enum-told : tie.Need-enum-told
 enum-told c = search needs
@@ -30,14 +29,14 @@ returns c =
     let a = c .before .before .before .before .before .before .before .args in
     let n = c .before .before .before .before .before .text-of in
     let g = c .before .before .before .text .given in
-    c .began-numbers .ensures ∙ ap beganNumbers (c .before .begin .ensures)
-    ∙ sym (text-known (a .kind) (λ t. beganNumbers (rules.begin t (length (a .buffer .now)) (a .budget))) (record { transfer = unknownText (a .kind); answer = unknownCommand }) (n .result) (n .ensures) (g .0 .0) (g .1))
+    c .numbers-of .ensures ∙ ap beganNumbers (c .before .begin .ensures)
+    ∙ sym (text-known (a .kind) (λ t. beganNumbers (rules.begin t (length (a .buffer .now)) (a .budget))) unknownText (n .result) (n .ensures) (g .0 .0) (g .1))
 
 returns-2 : tie.Need-returns-2
 returns-2 c =
     let a = c .before .before .before .before .args in
     let n = c .before .before .text-of in
-    sym (text-unknown (a .kind) (λ t. beganNumbers (rules.begin t (length (a .buffer .now)) (a .budget))) (record { transfer = unknownText (a .kind); answer = unknownCommand }) (n .result) (n .ensures) (c .enum-told .given .1))
+    sym (text-unknown (a .kind) (λ t. beganNumbers (rules.begin t (length (a .buffer .now)) (a .budget))) unknownText (n .result) (n .ensures) (c .enum-told .given .1))
 
 pub ddcci-begin-spec : {M : Type 1} → statement M
-ddcci-begin-spec = tie.close (tie.spec text-of-requires enum-known-text begin-requires began-numbers-requires enum-told returns returns-2)
+ddcci-begin-spec = tie.close (tie.spec text-of-requires enum-known-text begin-requires numbers-of-requires enum-told returns returns-2)

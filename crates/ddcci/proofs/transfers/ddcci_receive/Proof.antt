@@ -1,9 +1,9 @@
--- `ddcci::transfers::ddcci_receive` meets its contract: by the text that the number names.
+-- `ddcci::transfers::ddcci_receive` meets its contract: by the text that the phase names.
 -- Assumes nothing.
 use mathlib.Core.Path.{refl, sym, subst}
+use Prim.Native.Nat.{_/_}
 use Rattle.transfer_rules.specs.Transfer as rules
-use Rattle.message_rules.specs.Answer.{unknownCommand}
-use Rattle.ddcci.specs.Transfers.{transferOf, receivedNumbers, Received, Receives}
+use Rattle.ddcci.specs.Transfers.{transferOf, receivedNumbers, unmoved, Received, Receives}
 use Rattle.ddcci.proofs.Texts.{text-known, text-unknown}
 use borrow.Author.Needs.{needs}
 use Rattle.ddcci.proofs.transfers.ddcci_receive.Statement.{statement}
@@ -26,17 +26,17 @@ same-length c = search needs
 
 returns : tie.Need-returns
 returns c =
-    let a = c .before .before .before .before .before .before .before .before .before .before .args in
+    let a = c .before .before .before .before .before .before .before .before .before .before .before .args in
     let n = c .before .before .before .before .before .before .before .text-of in
     let g = c .before .before .before .before .before .text .given in
     let r = c .before .before .receive-of in
-    subst (λ (x : Received). Receives x (r .result) (r .last .1 .1 .0)) (sym (text-known (a .n .kind) (λ t. receivedNumbers (rules.receive (transferOf t (a .n)) (a .buffer .now) (a .reply .now))) (record { moved = record { transfer = a .n; answer = unknownCommand }; buffer = a .buffer .now }) (n .result) (n .ensures) (g .0 .0) (g .1))) (r .ensures)
+    subst (λ (x : Received). Receives x (r .result) (r .last .1 .1 .0)) (sym (text-known (a .n .phase / 4) (λ t. receivedNumbers (rules.receive (transferOf t (a .n)) (a .buffer .now) (a .reply .now))) (record { numbers = unmoved (a .n); buffer = a .buffer .now }) (n .result) (n .ensures) (g .0 .0) (g .1))) (r .ensures)
 
 returns-2 : tie.Need-returns-2
 returns-2 c =
-    let a = c .before .before .before .before .before .args in
+    let a = c .before .before .before .before .before .before .args in
     let n = c .before .before .text-of in
-    subst (λ (x : Received). Receives x (record { transfer = a .n; answer = unknownCommand }) (a .buffer .now)) (sym (text-unknown (a .n .kind) (λ t. receivedNumbers (rules.receive (transferOf t (a .n)) (a .buffer .now) (a .reply .now))) (record { moved = record { transfer = a .n; answer = unknownCommand }; buffer = a .buffer .now }) (n .result) (n .ensures) (c .enum-told .given .1))) (record { moved = refl; lent = refl })
+    subst (λ (x : Received). Receives x (unmoved (a .n)) (a .buffer .now)) (sym (text-unknown (a .n .phase / 4) (λ t. receivedNumbers (rules.receive (transferOf t (a .n)) (a .buffer .now) (a .reply .now))) (record { numbers = unmoved (a .n); buffer = a .buffer .now }) (n .result) (n .ensures) (c .enum-told .given .1))) (record { numbers = refl; lent = refl })
 
 pub ddcci-receive-spec : {M : Type 1} → statement M
 ddcci-receive-spec = tie.close (tie.spec text-of-requires enum-known-text receive-of-requires enum-told same-length returns returns-2)

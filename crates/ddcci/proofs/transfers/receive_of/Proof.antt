@@ -1,9 +1,8 @@
 -- `ddcci::transfers::receive_of` meets its contract.
 -- Assumes nothing.
-use mathlib.Core.Path.{_≡_, sym, ap, _∙_, subst}
+use mathlib.Core.Path.{ap₂, _∙_, subst}
 use Rattle.transfer_rules.specs.Transfer as rules
 use Rattle.transfer_rules.specs.declared.Transfer.{Transfer}
-use Rattle.ddcci.specs.declared.transfers.MovedNumbers.{MovedNumbers}
 use Rattle.ddcci.specs.Transfers.{numbersOf, receivedNumbers, Receives}
 use borrow.Author.Needs.{needs}
 use Rattle.ddcci.proofs.transfers.receive_of.Statement.{statement}
@@ -26,9 +25,8 @@ returns c =
     let a = c .before .before .before .before .before .before .before .before .args in
     let q = c .before .before .before .receive in
     let e = q .ensures in
-    let moved : MovedNumbers = record { transfer = c .numbers-of .result; answer = q .result .answer } in
-    subst (λ (x : Transfer). Receives (receivedNumbers (rules.receive x (a .buffer .now) (a .reply .now))) moved (q .last .1 .0)) (c .before .before .before .before .before .transfer-of .ensures)
-    (record { moved = cc (c .numbers-of .ensures, e .answerIs, e .transferIs); lent = e .bufferIs })
+    subst (λ (x : Transfer). Receives (receivedNumbers (rules.receive x (a .buffer .now) (a .reply .now))) (c .numbers-of .result) (q .last .1 .0)) (c .before .before .before .before .before .transfer-of .ensures)
+    (record { numbers = c .numbers-of .ensures ∙ ap₂ numbersOf (e .transferIs) (e .answerIs); lent = e .bufferIs })
 
 pub receive-of-spec : {M : Type 1} → statement M
 receive-of-spec =

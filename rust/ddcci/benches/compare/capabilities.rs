@@ -21,9 +21,10 @@ impl Lent {
 /// A string in the style of a monitor's, of about this length and at most 512 words.
 pub fn text(length: usize) -> Vec<u8> {
     let mut text = b"(prot(monitor)type(LCD)model(P2419H)cmds(01 02 03 07 0C E3 F3)vcp(".to_vec();
+    // Long words in a long string, which has room for 512 words only.
+    let (words, margin) = if length > 2000 { ("1234567890ABCDEFGHIJKLMN ", 80) } else { ("", 40) };
     let mut code = 0u32;
-    while text.len() + 40 < length {
-        let words = if length > 2000 { "1234567890ABCDEFGHIJKLMN " } else { "" };
+    while text.len() + margin < length {
         text.extend(format!("{:02X} {words}", code % 256).bytes());
         if code % 7 == 0 {
             text.extend(format!("{:02X}(01 02 04) ", (code * 3) % 256).bytes());

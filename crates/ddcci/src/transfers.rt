@@ -176,13 +176,10 @@ pub extern "C" fn ddcci_receive(
 {
     match text_of(n.phase / TABLE_PHASES) {
         TextNumber::Known(text) => receive_of(text, n, buffer, reply),
-        TextNumber::Unknown => TransferNumbers {
-            size: n.size,
-            offset: n.offset,
-            budget: n.budget,
-            count: n.count,
-            phase: n.phase,
-            answer: answer::UNKNOWN_COMMAND,
-        },
+        TextNumber::Unknown => {
+            let mut refused = n;
+            refused.answer = answer::UNKNOWN_COMMAND;
+            refused
+        }
     }
 }

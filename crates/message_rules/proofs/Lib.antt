@@ -6,3 +6,4 @@ pub mod Encoded
 pub mod Typed
 pub mod RoundTrip
 pub mod Order
+pub mod Checks

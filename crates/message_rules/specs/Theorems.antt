@@ -1,4 +1,4 @@
--- What is claimed of messages, over every message of either direction and any pair of address bytes. The proofs stand in proofs/Messages.antt.
+-- What is claimed of messages, over every message of either direction and any pair of address bytes. The proofs stand in proofs/RoundTrip.antt, Order.antt and Checks.antt.
 use Prim.Native.Nat.{ℕ, _+_, _<_}
 use mathlib.Core.Path.{_≡_}
 use mathlib.Core.List.{List, [], _∷_, _++_}
@@ -12,7 +12,7 @@ use Rattle.message_rules.specs.Read.{Read, ok, refused, answerOf, unless
 use Rattle.message_rules.specs.Layout.{rule, rowOf}
 use Rattle.message_rules.specs.Body.{lengthAllowed}
 use Rattle.message_rules.specs.Frame.{agrees, bodyLength, bodyOf, messageIn}
-use Rattle.message_rules.specs.Message.{Reading, Valid, encode, decode, replies, null, toHost}
+use Rattle.message_rules.specs.Message.{Reading, Valid, encode, decode, replies, null, toDisplay, toHost}
 use Rattle.message_rules.specs.declared.Address.{Address}
 use Rattle.message_rules.specs.declared.Direction.{Direction}
 use Rattle.message_rules.specs.declared.Direction.the-variants as way
@@ -88,3 +88,12 @@ pub record NullRead : Type 0 where
   -- it reads as 12, whatever follows it, and nothing else does
   pub there : (a : Address) (rest : List ℕ) → decode replies a (null a ++ rest) ≡ refused nullMessage
   pub back : (a : Address) (s : List ℕ) → decode replies a s ≡ refused nullMessage → messageIn way.Reply s ≡ null a
+
+-- ---- "(Source 000's 6F with 51, and source 001's 59, come to the same check.)"
+
+pub record SameCheck : Type 0 where
+  -- 6F and 51 in front of a reply's length byte, for our seed and its first byte
+  pub address : (s : List ℕ) → xorAll 0x6F (0x51 ∷ s) ≡ xorAll (toHost .seed) (toHost .first ∷ s)
+  -- the address 37 and all bytes of a request come to 59 just where our check is right
+  pub there : (s : List ℕ) → xorAll (toDisplay .seed) s ≡ 0 → xorAll 0x37 s ≡ 0x59
+  pub back : (s : List ℕ) → xorAll 0x37 s ≡ 0x59 → xorAll (toDisplay .seed) s ≡ 0

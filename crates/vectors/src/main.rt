@@ -1,83 +1,250 @@
-// Runs the message examples of the papers and every message that the sources show, and writes one line a group.
-mod captures;
+// Runs the vectors of standard input, then document 01's rules for single fields and its table of messages whole, and writes one line a group.
+// The form of the input stands at its head, in the file stdin.
+mod builder;
 mod damage;
+mod fields;
+mod line;
 mod number;
-mod output;
-mod readings;
-mod reply;
-mod request;
-mod room;
-mod settings;
+mod reader;
+mod setting;
 mod table;
 mod tally;
-mod worked;
+mod values;
+mod vector;
 
-use message_rules::Direction;
+use libc::STDERR_FILENO;
+use libc::STDIN_FILENO;
+use libc::STDOUT_FILENO;
 use tally::Tally;
 
-const STANDARD_OUTPUT: i32 = 1;
+// One byte more than the longest input.
+const INPUT_ROOM: usize = 16384;
 
-fn write(text: &[u8]) {
-    io::write_all(STANDARD_OUTPUT, text);
+// The most pairs of digits on a line.
+const LINE_ROOM: usize = 96;
+
+// How far the input has been run: whether a group has begun, whether a line was malformed; the group's tally, all groups before it, and beside
+// them the outputs of 37 and 38 bytes and the damaged variants of all vectors.
+struct Progress {
+    begun: bool,
+    stopped: bool,
+    group: Tally,
+    total: Tally,
+    room: Tally,
+    damaged: Tally,
 }
 
-fn write_number(n: u32) {
-    io::print_decimal(STANDARD_OUTPUT, n as u64);
+// Writes the rest of a group's line. Returns the tally of all groups up to it.
+fn close(p: Progress) -> Tally {
+    if p.begun {
+        io::write_all(STDOUT_FILENO, b": ");
+        io::print_decimal(STDOUT_FILENO, p.group.0 as u64);
+        io::write_all(STDOUT_FILENO, b" of ");
+        io::print_decimal(STDOUT_FILENO, p.group.1 as u64);
+        io::write_all(STDOUT_FILENO, b"\n");
+    }
+    p.total.join(p.group)
 }
 
-// Writes a group's line, and adds the group to what was counted before it.
-fn report(name: &[u8], group: Tally, before: Tally) -> Tally {
-    write(name);
-    write(b": ");
-    write_number(group.0);
-    write(b" of ");
-    write_number(group.1);
-    write(b"\n");
-    before.join(group)
+// Ends the group before, and begins one with this tally.
+fn begin(mut p: Progress, name: &[u8], group: Tally) -> Progress {
+    let total = close(p);
+    io::write_all(STDOUT_FILENO, name);
+    p.begun = true;
+    p.group = group;
+    p.total = total;
+    p
 }
 
 fn verdict(t: Tally) {
     if t.0 == t.1 {
-        write(b"all ");
-        write_number(t.1);
-        write(b" vectors hold\n");
+        io::write_all(STDOUT_FILENO, b"all ");
+        io::print_decimal(STDOUT_FILENO, t.1 as u64);
+        io::write_all(STDOUT_FILENO, b" vectors hold\n");
         return;
     }
-    write_number(std::num::wrapping_sub_u32(t.1, t.0));
-    write(b" of ");
-    write_number(t.1);
-    write(b" vectors fail\n");
+    io::print_decimal(STDOUT_FILENO, std::num::wrapping_sub_u32(t.1, t.0) as u64);
+    io::write_all(STDOUT_FILENO, b" of ");
+    io::print_decimal(STDOUT_FILENO, t.1 as u64);
+    io::write_all(STDOUT_FILENO, b" vectors fail\n");
 }
 
-// The groups of captured and worked messages, and their damaged variants.
-fn messages() -> Tally {
-    let a = captures::requests_001(tally::no_score());
-    let b = captures::replies_001(tally::no_score());
-    let c = captures::requests_003(tally::no_score());
-    let d = captures::replies_003(tally::no_score());
-    let e = worked::all(tally::no_score());
-    let one = report(b"source 001, requests", a.exact, tally::none());
-    let two = report(b"source 001, replies", b.exact, one);
-    let three = report(b"source 001, settings", settings::all(tally::none()), two);
-    let four = report(b"source 003, requests", c.exact, three);
-    let five = report(b"source 003, replies", d.exact, four);
-    let six = report(b"worked out from layouts", e.exact, five);
-    let damaged = a.damaged.join(b.damaged).join(c.damaged).join(d.damaged);
-    report(b"damaged variants", damaged.join(e.damaged), six)
+// What cannot be run counts as one vector that fails, and ends the run.
+fn stop(mut p: Progress) -> Progress {
+    let group = p.group.count(false);
+    p.group = group;
+    p.stopped = true;
+    p
+}
+
+// A message: its bytes and fields, the room of its output, and its damaged variants.
+fn run_message(mut p: Progress, command: u8, f: &[u8], s: &[u8], answer: u8) -> Progress {
+    let layout = fields::layout(command);
+    let fixed = layout.2 as usize;
+    if f.len() < fixed || (layout.3 == 0 && f.len() != fixed) {
+        return stop(p);
+    }
+    let group = p.group.count(vector::holds(command, f, s, answer));
+    let room = p.room.join(vector::room(command, f, s, answer));
+    let damaged = p.damaged.join(vector::damaged(command, s, answer));
+    p.group = group;
+    p.room = room;
+    p.damaged = damaged;
+    p
+}
+
+// A message of which only the reader's answer is judged.
+fn run_reading(mut p: Progress, to_host: bool, f: &[u8], s: &[u8], answer: u8) -> Progress {
+    if f.len() != 0 {
+        return stop(p);
+    }
+    let group = p.group.count(reader::answer(to_host, s) == answer);
+    p.group = group;
+    p
+}
+
+// A code and a value; for a range also the step, and how many there are.
+fn run_setting(mut p: Progress, f: &[u8], command: &[u8]) -> Progress {
+    let group = p.group;
+    if f.len() == 3 {
+        let one = group.join(setting::range(f, command, 0, 0, 1));
+        p.group = one;
+        return p;
+    }
+    if f.len() == 6 {
+        let many = group.join(setting::range(f, command, f[3], f[4], f[5]));
+        p.group = many;
+        return p;
+    }
+    stop(p)
+}
+
+// An answer number is written in decimal.
+fn judge(p: Progress, command: u8, f: &[u8], s: &[u8], behind: &[u8]) -> Progress {
+    if behind.len() > 1 {
+        return stop(p);
+    }
+    let digits = fields::octet(behind, 0);
+    let answer = digits / 16 * 10 + digits % 16;
+    match command {
+        line::REQUEST => run_reading(p, false, f, s, answer),
+        line::REPLY => run_reading(p, true, f, s, answer),
+        line::SETTING => run_setting(p, f, s),
+        line::UNKNOWN => stop(p),
+        _ => run_message(p, command, f, s, answer),
+    }
+}
+
+fn run_pairs(p: Progress, command: u8, row: line::Row, octets: &[u8]) -> Progress {
+    let start = row.fields;
+    let end = row.bytes;
+    if row.stage == line::MALFORMED {
+        return stop(p);
+    }
+    let f = fields::part(octets, 0, start);
+    let s = fields::part(octets, start, end);
+    judge(p, command, f, s, fields::part(octets, end, row.count))
+}
+
+fn run_vector(p: Progress, s: &[u8]) -> Progress {
+    let mut space = [0u8; LINE_ROOM];
+    let octets: &mut [u8] = &mut space;
+    let end = bytes::scan::find(s, 0, s.len(), b' ');
+    let command = line::command(&s[0..end]);
+    let row = line::pairs(&s[end..], octets);
+    run_pairs(p, command, row, octets)
+}
+
+// A line: a group's name in brackets, a vector of a group, a comment, or nothing.
+fn run_line(p: Progress, s: &[u8]) -> Progress {
+    if s.len() == 0 {
+        return p;
+    }
+    if s[0] == b'#' {
+        return p;
+    }
+    if s[0] == b'[' {
+        let end = bytes::scan::find(s, 1, s.len(), b']');
+        if end == s.len() - 1 {
+            return begin(p, &s[1..end], Tally(0, 0));
+        }
+        return stop(p);
+    }
+    if p.begun {
+        return run_vector(p, s);
+    }
+    stop(p)
+}
+
+fn run_lines(first: Progress, s: &[u8]) -> Progress {
+    let mut p = first;
+    let mut at = 0;
+    let mut number = 0u32;
+    while at < s.len() {
+        let end = bytes::scan::find(s, at, s.len(), b'\n');
+        let next = run_line(p, &s[at..end]);
+        p = next;
+        number = std::num::wrapping_add_u32(number, 1);
+        if p.stopped {
+            refuse_line(number);
+            return p;
+        }
+        if end == s.len() {
+            return p;
+        }
+        at = end + 1;
+    }
+    p
+}
+
+fn refuse_line(number: u32) {
+    io::write_all(STDERR_FILENO, b"vectors: line ");
+    io::print_decimal(STDERR_FILENO, number as u64);
+    io::write_all(STDERR_FILENO, b" of the input is malformed\n");
+}
+
+// The input's groups. An input that is too long, or has no vectors, is refused.
+fn run_input(s: &[u8]) -> Progress {
+    let none = Tally(0, 0);
+    let first = Progress {
+        begun: false,
+        stopped: false,
+        group: none,
+        total: none,
+        room: none,
+        damaged: none,
+    };
+    if s.len() == INPUT_ROOM {
+        io::write_all(
+            STDERR_FILENO,
+            b"vectors: the input has more than 16383 bytes\n",
+        );
+        return stop(first);
+    }
+    let last = run_lines(first, s);
+    if last.group.1 == 0 && last.total.1 == 0 {
+        io::write_all(STDERR_FILENO, b"vectors: the input has no vectors\n");
+        return stop(last);
+    }
+    last
+}
+
+// Document 01's rules that are run over every value.
+fn run_rules(p: Progress) -> Progress {
+    let a = begin(p, b"document 01, fields", values::all());
+    let b = begin(a, b"document 01, table of requests", table::all(false));
+    begin(b, b"document 01, table of replies", table::all(true))
 }
 
 fn main() {
-    let a = messages();
-    let b = report(b"document 01, readings", readings::all(tally::none()), a);
-    let c = report(
-        b"document 01, table of requests",
-        table::all(Direction::Request),
-        b,
-    );
-    let d = report(
-        b"document 01, table of replies",
-        table::all(Direction::Reply),
-        c,
-    );
-    verdict(report(b"document 01, room of an output", room::all(), d));
+    let mut input = [0u8; INPUT_ROOM];
+    let got = io::read_full(STDIN_FILENO, &mut input);
+    let p = run_input(&input[..got]);
+    if p.stopped {
+        verdict(close(p));
+        return;
+    }
+    let a = begin(p, b"room of an output", p.room);
+    let b = begin(a, b"damaged variants", p.damaged);
+    verdict(close(run_rules(b)));
 }

@@ -1,5 +1,4 @@
 // Document 01's answer numbers for messages, written down once more: a wrong number in the library then shows.
-ghost use Prim.Native.Nat.{_<_};
 
 pub(crate) const DONE: u8 = 0;
 
@@ -21,10 +20,3 @@ pub(crate) const NULL_MESSAGE: u8 = 12;
 
 // No answer of document 01: two readers that must agree do not.
 pub(crate) const DISAGREE: u8 = 255;
-
-// A byte as a number of bytes.
-pub(crate) fn wide(x: u8) -> usize
-    ensures { λ r. ⌜ r < 256 ⌝ }
-{
-    x as usize
-}

@@ -7,13 +7,10 @@ use Rattle.vectors.proofs.damage.changed.Statement.{statement}
 use Rattle.vectors.proofs.damage.changed.Tie as tie
 
 abbrev Inv-loop : tie.InvT-loop
-Inv-loop direction s₀ sum₀ i₀ i-end s sum i = (length s ≡ length s₀) × (i ≤ i-end)
+Inv-loop to-host s₀ sum₀ i₀ i-end s sum i = (length s ≡ length s₀) × (i ≤ i-end)
 
 abbrev μ-loop : tie.MeasureT-loop
-μ-loop direction s₀ sum₀ i₀ i-end s sum i = i-end - i
-
-none-requires : tie.Need-none-requires Inv-loop μ-loop
-none-requires c κs = search needs
+μ-loop to-host s₀ sum₀ i₀ i-end s sum i = i-end - i
 
 loop-holds : tie.Need-loop-holds Inv-loop μ-loop
 loop-holds c = search needs
@@ -45,7 +42,6 @@ changed-spec =
     (tie.spec
     Inv-loop
     μ-loop
-    none-requires
     loop-holds
     changed-byte-requires
     join-requires

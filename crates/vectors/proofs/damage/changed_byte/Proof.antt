@@ -7,13 +7,10 @@ use Rattle.vectors.proofs.damage.changed_byte.Statement.{statement}
 use Rattle.vectors.proofs.damage.changed_byte.Tie as tie
 
 abbrev Inv-loop : tie.InvT-loop
-Inv-loop direction s₀ i sum₀ old flaw₀ s sum flaw = (length s ≡ length s₀) × (flaw ≤ 255)
+Inv-loop to-host s₀ i sum₀ old flaw₀ s sum flaw = (length s ≡ length s₀) × (flaw ≤ 255)
 
 abbrev μ-loop : tie.MeasureT-loop
-μ-loop direction s₀ i sum₀ old flaw₀ s sum flaw = 255 - flaw
-
-none-requires : tie.Need-none-requires Inv-loop μ-loop
-none-requires c κs = search needs
+μ-loop to-host s₀ i sum₀ old flaw₀ s sum flaw = 255 - flaw
 
 returns : tie.Need-returns Inv-loop μ-loop
 returns c = search needs
@@ -33,8 +30,8 @@ slice-write-s c = search needs
 answer-requires : tie.Need-answer-requires Inv-loop μ-loop
 answer-requires c κs = search needs
 
-refusal-requires : tie.Need-refusal-requires Inv-loop μ-loop
-refusal-requires c κs = search needs
+flawed-requires : tie.Need-flawed-requires Inv-loop μ-loop
+flawed-requires c κs = search needs
 
 count-requires : tie.Need-count-requires Inv-loop μ-loop
 count-requires c κs = search needs
@@ -60,14 +57,13 @@ changed-byte-spec =
     (tie.spec
     Inv-loop
     μ-loop
-    none-requires
     returns
     slice-read-old
     loop-holds
     add-flaw
     slice-write-s
     answer-requires
-    refusal-requires
+    flawed-requires
     count-requires
     loop-less
     loop-again

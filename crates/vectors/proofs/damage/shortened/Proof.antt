@@ -5,31 +5,28 @@ use Rattle.vectors.proofs.damage.shortened.Statement.{statement}
 use Rattle.vectors.proofs.damage.shortened.Tie as tie
 
 abbrev Inv-loop : tie.InvT-loop
-Inv-loop direction s sum₀ n₀ n-end sum n = n ≤ n-end
+Inv-loop to-host s sum₀ n₀ n-end sum n = n ≤ n-end
 
 abbrev μ-loop : tie.MeasureT-loop
-μ-loop direction s sum₀ n₀ n-end sum n = n-end - n
-
-none-requires : tie.Need-none-requires Inv-loop μ-loop
-none-requires c κs = search needs
+μ-loop to-host s sum₀ n₀ n-end sum n = n-end - n
 
 loop-holds : tie.Need-loop-holds Inv-loop μ-loop
 loop-holds c = search needs
 
-sub-answer : tie.Need-sub-answer Inv-loop μ-loop
-sub-answer c = search needs
+sub-short : tie.Need-sub-short Inv-loop μ-loop
+sub-short c = search needs
 
-part-answer-start : tie.Need-part-answer-start Inv-loop μ-loop
-part-answer-start c = search needs
+part-short-start : tie.Need-part-short-start Inv-loop μ-loop
+part-short-start c = search needs
 
-part-answer-end : tie.Need-part-answer-end Inv-loop μ-loop
-part-answer-end c = search needs
+part-short-end : tie.Need-part-short-end Inv-loop μ-loop
+part-short-end c = search needs
 
 answer-requires : tie.Need-answer-requires Inv-loop μ-loop
 answer-requires c κs = search needs
 
-short-refusal-requires : tie.Need-short-refusal-requires Inv-loop μ-loop
-short-refusal-requires c κs = search needs
+flawed-requires : tie.Need-flawed-requires Inv-loop μ-loop
+flawed-requires c κs = search needs
 
 count-requires : tie.Need-count-requires Inv-loop μ-loop
 count-requires c κs = search needs
@@ -52,13 +49,12 @@ shortened-spec =
     (tie.spec
     Inv-loop
     μ-loop
-    none-requires
     loop-holds
-    sub-answer
-    part-answer-start
-    part-answer-end
+    sub-short
+    part-short-start
+    part-short-end
     answer-requires
-    short-refusal-requires
+    flawed-requires
     count-requires
     add-n
     loop-less

@@ -5,13 +5,10 @@ use Rattle.vectors.proofs.table.all.Statement.{statement}
 use Rattle.vectors.proofs.table.all.Tie as tie
 
 abbrev Inv-loop : tie.InvT-loop
-Inv-loop direction sum₀ command₀ sum command = command ≤ 255
+Inv-loop to-host sum₀ command₀ sum command = command ≤ 255
 
 abbrev μ-loop : tie.MeasureT-loop
-μ-loop direction sum₀ command₀ sum command = 255 - command
-
-none-requires : tie.Need-none-requires Inv-loop μ-loop
-none-requires c κs = search needs
+μ-loop to-host sum₀ command₀ sum command = 255 - command
 
 loop-holds : tie.Need-loop-holds Inv-loop μ-loop
 loop-holds c = search needs
@@ -21,12 +18,6 @@ lengths-requires c κs = search needs
 
 join-requires : tie.Need-join-requires Inv-loop μ-loop
 join-requires c κs = search needs
-
-long-bodies-requires : tie.Need-long-bodies-requires Inv-loop μ-loop
-long-bodies-requires c κs = search needs
-
-join-requires-2 : tie.Need-join-requires-2 Inv-loop μ-loop
-join-requires-2 c κs = search needs
 
 add-command : tie.Need-add-command Inv-loop μ-loop
 add-command c = search needs
@@ -49,12 +40,9 @@ all-spec =
     (tie.spec
     Inv-loop
     μ-loop
-    none-requires
     loop-holds
     lengths-requires
     join-requires
-    long-bodies-requires
-    join-requires-2
     add-command
     loop-less
     loop-again

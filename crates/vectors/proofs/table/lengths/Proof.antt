@@ -1,26 +1,23 @@
--- `vectors::table::lengths` is safe and ends. The measure is what is left of the lengths up to 35.
+-- `vectors::table::lengths` is safe and ends. The measure is what is left of the lengths up to 127.
 use Prim.Native.Nat.{_≤_, _-_}
 use borrow.Author.Needs.{needs}
 use Rattle.vectors.proofs.table.lengths.Statement.{statement}
 use Rattle.vectors.proofs.table.lengths.Tie as tie
 
 abbrev Inv-loop : tie.InvT-loop
-Inv-loop direction command sum₀ high n₀ sum n = n ≤ 36
+Inv-loop to-host command sum₀ n₀ sum n = n ≤ 128
 
 abbrev μ-loop : tie.MeasureT-loop
-μ-loop direction command sum₀ high n₀ sum n = 36 - n
-
-none-requires : tie.Need-none-requires Inv-loop μ-loop
-none-requires c κs = search needs
-
-form-requires : tie.Need-form-requires Inv-loop μ-loop
-form-requires c κs = search needs
+μ-loop to-host command sum₀ n₀ sum n = 128 - n
 
 loop-holds : tie.Need-loop-holds Inv-loop μ-loop
 loop-holds c = search needs
 
-body-requires : tie.Need-body-requires Inv-loop μ-loop
-body-requires c κs = search needs
+form-requires : tie.Need-form-requires Inv-loop μ-loop
+form-requires c κs = search needs
+
+expected-requires : tie.Need-expected-requires Inv-loop μ-loop
+expected-requires c κs = search needs
 
 framed-requires : tie.Need-framed-requires Inv-loop μ-loop
 framed-requires c κs = search needs
@@ -58,10 +55,9 @@ lengths-spec =
     (tie.spec
     Inv-loop
     μ-loop
-    none-requires
-    form-requires
     loop-holds
-    body-requires
+    form-requires
+    expected-requires
     framed-requires
     count-requires
     framed-requires-2

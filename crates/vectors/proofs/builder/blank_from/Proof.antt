@@ -1,9 +1,9 @@
--- `vectors::output::untouched_from` is safe and ends. The measure is what is left of the output; nothing else need hold.
+-- `vectors::builder::blank_from` is safe and ends. The measure is what is left of the output; nothing else need hold.
 use Prim.Native.Nat.{_≤_, _-_}
 use lib.ListN.{length}
 use borrow.Author.Needs.{needs}
-use Rattle.vectors.proofs.output.untouched_from.Statement.{statement}
-use Rattle.vectors.proofs.output.untouched_from.Tie as tie
+use Rattle.vectors.proofs.builder.blank_from.Statement.{statement}
+use Rattle.vectors.proofs.builder.blank_from.Tie as tie
 
 abbrev Inv-loop : tie.InvT-loop
 Inv-loop out at i₀ i = 0 ≤ i
@@ -32,8 +32,8 @@ loop-again c = search needs
 returns-2 : tie.Need-returns-2 Inv-loop μ-loop
 returns-2 c = search needs
 
-pub untouched-from-spec : {M : Type 1} → statement M
-untouched-from-spec =
+pub blank-from-spec : {M : Type 1} → statement M
+blank-from-spec =
     tie.close
     (tie.spec
     Inv-loop

@@ -1,17 +1,14 @@
--- `vectors::readings::fields` is safe and ends. The measure is what is left of the 256 values.
+-- `vectors::values::all` is safe and ends. The measure is what is left of the 256 values.
 use Prim.Native.Nat.{_≤_, _-_}
 use borrow.Author.Needs.{needs}
-use Rattle.vectors.proofs.readings.fields.Statement.{statement}
-use Rattle.vectors.proofs.readings.fields.Tie as tie
+use Rattle.vectors.proofs.values.all.Statement.{statement}
+use Rattle.vectors.proofs.values.all.Tie as tie
 
 abbrev Inv-loop : tie.InvT-loop
 Inv-loop sum₀ field₀ sum field = field ≤ 255
 
 abbrev μ-loop : tie.MeasureT-loop
 μ-loop sum₀ field₀ sum field = 255 - field
-
-none-requires : tie.Need-none-requires Inv-loop μ-loop
-none-requires c κs = search needs
 
 loop-holds : tie.Need-loop-holds Inv-loop μ-loop
 loop-holds c = search needs
@@ -67,13 +64,12 @@ returns c = search needs
 returns-2 : tie.Need-returns-2 Inv-loop μ-loop
 returns-2 c = search needs
 
-pub fields-spec : {M : Type 1} → statement M
-fields-spec =
+pub all-spec : {M : Type 1} → statement M
+all-spec =
     tie.close
     (tie.spec
     Inv-loop
     μ-loop
-    none-requires
     loop-holds
     empty-holds-requires
     count-requires

@@ -1,0 +1,67 @@
+// Document 01's rules for single fields, run over every value of the field.
+use crate::number;
+use crate::reader;
+use crate::tally::Tally;
+use crate::vector;
+
+// A Timing reply with this status: its bits 5 to 2 must be 0.
+fn status_holds(status: u8) -> bool {
+    let f = [status, 0x34, 0x1C, 0x17, 0x70];
+    let sum = 0x39 ^ status;
+    let s = [0x6E, 0x06, 0x4E, status, 0x34, 0x1C, 0x17, 0x70, sum];
+    if status & 0x3C == 0 {
+        return vector::holds(0x4E, &f, &s, number::DONE);
+    }
+    vector::holds(0x4E, &f, &s, number::WRONG_FIELD)
+}
+
+// A Value reply with this result and type: each must be 0 or 1.
+fn value_holds(result: u8, kind: u8) -> bool {
+    let f = [result, 0x10, kind, 0x12, 0x34, 0x56, 0x78];
+    let sum = 0xAC ^ result ^ kind;
+    let s = [
+        0x6E,
+        0x88,
+        0x02,
+        result,
+        0x10,
+        kind,
+        0x12,
+        0x34,
+        0x56,
+        0x78,
+        sum,
+    ];
+    if result < 2 && kind < 2 {
+        return vector::holds(0x02, &f, &s, number::DONE);
+    }
+    vector::holds(0x02, &f, &s, number::WRONG_FIELD)
+}
+
+// Replies of no body with this last byte. The null message alone has the right checksum; the plain form needs 4E in a body.
+fn empty_holds(last: u8) -> bool {
+    let null = [0x6E, 0x80, last];
+    let plain = [0x6E, 0x00, last];
+    if reader::answer(true, &plain) != number::WRONG_LENGTH {
+        return false;
+    }
+    if last == 0xBE {
+        return reader::answer(true, &null) == number::NULL_MESSAGE;
+    }
+    reader::answer(true, &null) == number::WRONG_CHECKSUM
+}
+
+// Every last byte of a reply of no body, every status, every result with either type, every type with either result.
+pub(crate) fn all() -> Tally {
+    let mut sum = Tally(0, 0);
+    for field in 0..=255u8 {
+        let empty = sum.count(empty_holds(field));
+        let a = empty.count(status_holds(field));
+        let b = a.count(value_holds(field, 0));
+        let c = b.count(value_holds(field, 1));
+        let d = c.count(value_holds(0, field));
+        let next = d.count(value_holds(1, field));
+        sum = next;
+    }
+    sum
+}

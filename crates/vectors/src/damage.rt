@@ -1,8 +1,10 @@
 // Damaged variants of a message: each byte changed to each other value, each shorter slice, and a longer one.
 use crate::builder;
+use crate::fields;
 use crate::number;
 use crate::reader;
 use crate::tally::Tally;
+use crate::vector;
 
 // The bit that a length byte has beside n: none in a reply whose body begins with 4E.
 pub(crate) fn form(to_host: bool, n: u8, command: u8) -> u8 {
@@ -54,31 +56,27 @@ fn changed_byte(to_host: bool, s: &mut [u8], i: usize) -> Tally {
     sum
 }
 
+// Each byte changed, and the slice cut in front of it.
 fn changed(to_host: bool, s: &mut [u8]) -> Tally {
     let mut sum = Tally(0, 0);
     for i in 0..s.len() {
-        let next = sum.join(changed_byte(to_host, s, i));
+        let bytes_changed = sum.join(changed_byte(to_host, s, i));
+        let short = fields::part(s, 0, i);
+        let next = bytes_changed.count(reader::answer(to_host, short) == flawed(to_host, short));
         sum = next;
     }
     sum
 }
 
-fn shortened(to_host: bool, s: &[u8]) -> Tally {
-    let mut sum = Tally(0, 0);
-    for n in 0..s.len() {
-        let short = &s[0..n];
-        let next = sum.count(reader::answer(to_host, short) == flawed(to_host, short));
-        sum = next;
-    }
-    sum
-}
-
-// All of them for one message that is read with this answer. A byte behind a request is 4; one behind a reply is ignored. Where there
-// is no room for one byte more, that counts as one vector that fails.
+// All of them for one message that is read with this answer; none for bytes that no builder makes. A byte behind a request is 4; one behind
+// a reply is ignored. Where there is no room for one byte more, that counts as one vector that fails.
 pub(crate) fn variants(to_host: bool, s: &[u8], answer: u8) -> Tally {
     let mut space = [builder::BLANK; 44];
     let room: &mut [u8] = &mut space;
     let n = s.len();
+    if vector::builder_answer(answer) != number::DONE {
+        return Tally(0, 0);
+    }
     if room.len() <= n {
         return Tally(0, 1);
     }
@@ -89,6 +87,5 @@ pub(crate) fn variants(to_host: bool, s: &[u8], answer: u8) -> Tally {
         number::WRONG_LENGTH
     };
     let held = reader::answer(to_host, &room[0..n + 1]) == longer;
-    let sum = changed(to_host, &mut room[0..n]).join(shortened(to_host, s));
-    sum.count(held)
+    changed(to_host, &mut room[0..n]).count(held)
 }

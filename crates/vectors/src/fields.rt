@@ -1,10 +1,19 @@
-// The fields of a message, all in one slice of bytes in document 01's order: single bytes, 16-bit words with the high byte first, data.
+// The fields of a message: its command number, at most three single bytes and two 16-bit words, each 0 where it has none. Data stand apart.
+pub(crate) struct Fields(
+    pub(crate) u8,
+    pub(crate) u8,
+    pub(crate) u8,
+    pub(crate) u8,
+    pub(crate) u16,
+    pub(crate) u16,
+);
 
-// A row of document 01's table: whether the command is in it, whether the message is a reply, how many bytes of fields it has behind the
-// command, and how much data at most.
+// A row of document 01's table: whether the command is in it, whether the message is a reply, how many single bytes and how many bytes of
+// words it has, and how much data at most.
 pub(crate) struct Shape(
     pub(crate) bool,
     pub(crate) bool,
+    pub(crate) u8,
     pub(crate) u8,
     pub(crate) u8,
 );
@@ -12,18 +21,18 @@ pub(crate) struct Shape(
 // The table, written down once more. The null message, which has no command, is a reply without fields.
 pub(crate) fn layout(command: u8) -> Shape {
     match command {
-        0x01 => Shape(true, false, 1, 0),
-        0x03 => Shape(true, false, 3, 0),
-        0x07 => Shape(true, false, 0, 0),
-        0x0C => Shape(true, false, 0, 0),
-        0xF3 => Shape(true, false, 2, 0),
-        0xE2 => Shape(true, false, 3, 0),
-        0xE7 => Shape(true, false, 3, 31),
-        0x02 => Shape(true, true, 7, 0),
-        0x4E => Shape(true, true, 5, 0),
-        0xE3 => Shape(true, true, 2, 32),
-        0xE4 => Shape(true, true, 2, 32),
-        _ => Shape(false, true, 0, 0),
+        0x01 => Shape(true, false, 1, 0, 0),
+        0x03 => Shape(true, false, 1, 2, 0),
+        0x07 => Shape(true, false, 0, 0, 0),
+        0x0C => Shape(true, false, 0, 0, 0),
+        0xF3 => Shape(true, false, 0, 2, 0),
+        0xE2 => Shape(true, false, 1, 2, 0),
+        0xE7 => Shape(true, false, 1, 2, 31),
+        0x02 => Shape(true, true, 3, 4, 0),
+        0x4E => Shape(true, true, 1, 4, 0),
+        0xE3 => Shape(true, true, 0, 2, 32),
+        0xE4 => Shape(true, true, 0, 2, 32),
+        _ => Shape(false, true, 0, 0, 0),
     }
 }
 
@@ -45,12 +54,27 @@ pub(crate) fn octet(s: &[u8], at: usize) -> u8 {
     0
 }
 
-// The word at an index, likewise.
-pub(crate) fn word(s: &[u8], at: usize) -> u16 {
-    if at < s.len() {
-        let high = octet(s, at);
-        let low = octet(&s[at..], 1);
-        return high as u16 * 256 + low as u16;
+pub(crate) fn word(high: u8, low: u8) -> u16 {
+    high as u16 * 256 + low as u16
+}
+
+// The fields from the single bytes and the words of a message, the high byte of each word first.
+pub(crate) fn gather(command: u8, b: &[u8], w: &[u8]) -> Fields {
+    let first = word(octet(w, 0), octet(w, 1));
+    let second = word(octet(w, 2), octet(w, 3));
+    Fields(
+        command,
+        octet(b, 0),
+        octet(b, 1),
+        octet(b, 2),
+        first,
+        second,
+    )
+}
+
+pub(crate) fn same(f: Fields, g: Fields) -> bool {
+    if f.0 != g.0 || f.1 != g.1 || f.2 != g.2 {
+        return false;
     }
-    0
+    f.3 == g.3 && f.4 == g.4 && f.5 == g.5
 }

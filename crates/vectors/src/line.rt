@@ -80,7 +80,7 @@ fn mark(mut row: Row, b: u8) -> Row {
             row.bytes = count;
             return row;
         }
-        if row.stage == ANSWER && b == b'\n' {
+        if row.stage == ANSWER && b == b'\n' && row.bytes < count {
             return row;
         }
     }

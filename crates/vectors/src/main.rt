@@ -12,6 +12,7 @@ mod tally;
 mod values;
 mod vector;
 
+use fields::Fields;
 use libc::STDERR_FILENO;
 use libc::STDIN_FILENO;
 use libc::STDOUT_FILENO;
@@ -78,45 +79,41 @@ fn stop(mut p: Progress) -> Progress {
 }
 
 // A message: its bytes and fields, the room of its output, and its damaged variants.
-fn run_message(mut p: Progress, command: u8, f: &[u8], s: &[u8], answer: u8) -> Progress {
-    let layout = fields::layout(command);
-    let fixed = layout.2 as usize;
-    if f.len() < fixed || (layout.3 == 0 && f.len() != fixed) {
-        return stop(p);
-    }
-    let group = p.group.count(vector::holds(command, f, s, answer));
-    let room = p.room.join(vector::room(command, f, s, answer));
-    let damaged = p.damaged.join(vector::damaged(command, s, answer));
+fn run_fields(mut p: Progress, f: Fields, data: &[u8], s: &[u8], answer: u8) -> Progress {
+    let to_host = fields::layout(f.0).1;
+    let group = p.group.count(vector::holds(f, data, s, answer));
     p.group = group;
+    let room = p.room.join(vector::room(f, data, s, answer));
     p.room = room;
+    let damaged = p.damaged.join(damage::variants(to_host, s, answer));
     p.damaged = damaged;
     p
 }
 
-// A message of which only the reader's answer is judged.
-fn run_reading(mut p: Progress, to_host: bool, f: &[u8], s: &[u8], answer: u8) -> Progress {
-    if f.len() != 0 {
+// The same from the bytes of the fields; they must be as many as the message has.
+fn run_message(p: Progress, command: u8, f: &[u8], s: &[u8], answer: u8) -> Progress {
+    let shape = fields::layout(command);
+    let words = shape.2 as usize;
+    let data = words + shape.3 as usize;
+    if f.len() < data || (shape.4 == 0 && f.len() != data) {
         return stop(p);
     }
-    let group = p.group.count(reader::answer(to_host, s) == answer);
-    p.group = group;
-    p
+    let gathered = fields::gather(
+        command,
+        fields::part(f, 0, words),
+        fields::part(f, words, data),
+    );
+    run_fields(p, gathered, fields::part(f, data, f.len()), s, answer)
 }
 
-// A code and a value; for a range also the step, and how many there are.
-fn run_setting(mut p: Progress, f: &[u8], command: &[u8]) -> Progress {
-    let group = p.group;
-    if f.len() == 3 {
-        let one = group.join(setting::range(f, command, 0, 0, 1));
-        p.group = one;
-        return p;
+// Adds vectors to the group. None at all is a malformed line.
+fn add(mut p: Progress, t: Tally) -> Progress {
+    if t.1 == 0 {
+        return stop(p);
     }
-    if f.len() == 6 {
-        let many = group.join(setting::range(f, command, f[3], f[4], f[5]));
-        p.group = many;
-        return p;
-    }
-    stop(p)
+    let group = p.group.join(t);
+    p.group = group;
+    p
 }
 
 // An answer number is written in decimal.
@@ -127,31 +124,28 @@ fn judge(p: Progress, command: u8, f: &[u8], s: &[u8], behind: &[u8]) -> Progres
     let digits = fields::octet(behind, 0);
     let answer = digits / 16 * 10 + digits % 16;
     match command {
-        line::REQUEST => run_reading(p, false, f, s, answer),
-        line::REPLY => run_reading(p, true, f, s, answer),
-        line::SETTING => run_setting(p, f, s),
-        line::UNKNOWN => stop(p),
+        line::REQUEST => add(p, vector::reading(false, f, s, answer)),
+        line::REPLY => add(p, vector::reading(true, f, s, answer)),
+        line::SETTING => add(p, setting::row(f, s)),
         _ => run_message(p, command, f, s, answer),
     }
 }
 
 fn run_pairs(p: Progress, command: u8, row: line::Row, octets: &[u8]) -> Progress {
-    let start = row.fields;
-    let end = row.bytes;
-    if row.stage == line::MALFORMED {
-        return stop(p);
-    }
-    let f = fields::part(octets, 0, start);
-    let s = fields::part(octets, start, end);
-    judge(p, command, f, s, fields::part(octets, end, row.count))
+    let f = fields::part(octets, 0, row.fields);
+    let s = fields::part(octets, row.fields, row.bytes);
+    judge(p, command, f, s, fields::part(octets, row.bytes, row.count))
 }
 
 fn run_vector(p: Progress, s: &[u8]) -> Progress {
     let mut space = [0u8; LINE_ROOM];
     let octets: &mut [u8] = &mut space;
     let end = bytes::scan::find(s, 0, s.len(), b' ');
-    let command = line::command(&s[0..end]);
     let row = line::pairs(&s[end..], octets);
+    let command = line::command(&s[0..end]);
+    if row.stage == line::MALFORMED || command == line::UNKNOWN {
+        return stop(p);
+    }
     run_pairs(p, command, row, octets)
 }
 

@@ -1,39 +1,66 @@
 // What the library reads from bytes, compared with what it must read.
 use crate::fields;
+use crate::fields::Fields;
 use crate::number;
 use message::ReplyRead;
 use message::RequestRead;
 use message::reply;
 use message::request;
-use message_rules::Position;
 use message_rules::TO_DISPLAY;
 use message_rules::TO_HOST;
 
-fn reply_number(reading: ReplyRead) -> u8 {
-    if let ReplyRead::Refused(refusal) = reading {
-        return refusal;
+// A reading: the answer number, the fields, where data start and how many they are.
+struct Reading(u8, Fields, usize, usize);
+
+fn of_request(read: RequestRead) -> Reading {
+    match read {
+        RequestRead::Get(c) => Reading(0, Fields(0x01, c, 0, 0, 0, 0), 0, 0),
+        RequestRead::Set(c, v) => Reading(0, Fields(0x03, c, 0, 0, v, 0), 0, 0),
+        RequestRead::Timing => Reading(0, Fields(0x07, 0, 0, 0, 0, 0), 0, 0),
+        RequestRead::Save => Reading(0, Fields(0x0C, 0, 0, 0, 0, 0), 0, 0),
+        RequestRead::Text(o) => Reading(0, Fields(0xF3, 0, 0, 0, o.0, 0), 0, 0),
+        RequestRead::TableRead(c, o) => Reading(0, Fields(0xE2, c, 0, 0, o.0, 0), 0, 0),
+        RequestRead::TableWrite(c, o, at, len) => {
+            Reading(0, Fields(0xE7, c, 0, 0, o.0, 0), at.0, len)
+        }
+        RequestRead::Refused(refusal) => Reading(refusal, Fields(0, 0, 0, 0, 0, 0), 0, 0),
     }
-    number::DONE
 }
 
-// The answer number of a reading. Of a reply, the reader of any address and that of the display must agree on it.
-pub(crate) fn answer(to_host: bool, s: &[u8]) -> u8 {
-    if to_host {
-        let any = reply_number(reply::read_reply(TO_HOST, s));
-        if any == reply_number(reply::read_display_reply(s)) {
-            return any;
+fn of_reply(read: ReplyRead) -> Reading {
+    match read {
+        ReplyRead::Value(r, c, k, m, p) => Reading(0, Fields(0x02, r, c, k, m, p), 0, 0),
+        ReplyRead::Timing(a, h, v) => Reading(0, Fields(0x4E, a, 0, 0, h, v), 0, 0),
+        ReplyRead::TextFragment(o, at, len) => {
+            Reading(0, Fields(0xE3, 0, 0, 0, o.0, 0), at.0, len)
         }
-        return number::DISAGREE;
+        ReplyRead::TableFragment(o, at, len) => {
+            Reading(0, Fields(0xE4, 0, 0, 0, o.0, 0), at.0, len)
+        }
+        ReplyRead::Refused(refusal) => Reading(refusal, Fields(0, 0, 0, 0, 0, 0), 0, 0),
     }
-    if let RequestRead::Refused(refusal) = request::read_request(TO_DISPLAY, s) {
-        return refusal;
+}
+
+// Of a reply, the reader of any address and that of the display must agree on the answer.
+fn read(to_host: bool, s: &[u8]) -> Reading {
+    if to_host {
+        let any = of_reply(reply::read_reply(TO_HOST, s));
+        let own = of_reply(reply::read_display_reply(s));
+        if any.0 == own.0 {
+            return own;
+        }
+        return Reading(number::DISAGREE, Fields(0, 0, 0, 0, 0, 0), 0, 0);
     }
-    number::DONE
+    of_request(request::read_request(TO_DISPLAY, s))
+}
+
+// The answer number of a reading.
+pub(crate) fn answer(to_host: bool, s: &[u8]) -> u8 {
+    read(to_host, s).0
 }
 
 // Whether the `len` bytes at this position are the data.
-fn part_is(s: &[u8], position: Position, len: usize, data: &[u8]) -> bool {
-    let at = position.0;
+fn part_is(s: &[u8], at: usize, len: usize, data: &[u8]) -> bool {
     if s.len() < at {
         return false;
     }
@@ -44,74 +71,18 @@ fn part_is(s: &[u8], position: Position, len: usize, data: &[u8]) -> bool {
     check::same(&rest[0..len], data)
 }
 
-fn request_is(command: u8, f: &[u8], s: &[u8]) -> bool {
-    match request::read_request(TO_DISPLAY, s) {
-        RequestRead::Get(c) => command == 0x01 && check::same(f, &[c]),
-        RequestRead::Set(c, v) => {
-            let read = [c, (v / 256) as u8, (v % 256) as u8];
-            command == 0x03 && check::same(f, &read)
-        }
-        RequestRead::Timing => command == 0x07,
-        RequestRead::Save => command == 0x0C,
-        RequestRead::Text(o) => command == 0xF3 && o.0 == fields::word(f, 0),
-        RequestRead::TableRead(c, o) => {
-            command == 0xE2 && c == fields::octet(f, 0) && o.0 == fields::word(f, 1)
-        }
-        RequestRead::TableWrite(c, o, at, len) => {
-            let head = c == fields::octet(f, 0) && o.0 == fields::word(f, 1);
-            command == 0xE7 && head && part_is(s, at, len, fields::part(f, 3, f.len()))
-        }
-        RequestRead::Refused(_) => false,
-    }
-}
-
-fn reply_is(command: u8, f: &[u8], s: &[u8]) -> bool {
-    match reply::read_display_reply(s) {
-        ReplyRead::Value(r, c, k, m, p) => {
-            let read = [
-                r,
-                c,
-                k,
-                (m / 256) as u8,
-                (m % 256) as u8,
-                (p / 256) as u8,
-                (p % 256) as u8,
-            ];
-            command == 0x02 && check::same(f, &read)
-        }
-        ReplyRead::Timing(a, h, v) => {
-            let read = [
-                a,
-                (h / 256) as u8,
-                (h % 256) as u8,
-                (v / 256) as u8,
-                (v % 256) as u8,
-            ];
-            command == 0x4E && check::same(f, &read)
-        }
-        ReplyRead::TextFragment(o, at, len) => {
-            let head = command == 0xE3 && o.0 == fields::word(f, 0);
-            head && part_is(s, at, len, fields::part(f, 2, f.len()))
-        }
-        ReplyRead::TableFragment(o, at, len) => {
-            let head = command == 0xE4 && o.0 == fields::word(f, 0);
-            head && part_is(s, at, len, fields::part(f, 2, f.len()))
-        }
-        ReplyRead::Refused(_) => false,
-    }
-}
-
-// Whether reading these bytes gives this answer, and with answer 0 the message with these fields.
-pub(crate) fn reads(command: u8, f: &[u8], s: &[u8], expected: u8) -> bool {
-    let to_host = fields::layout(command).1;
-    if answer(to_host, s) != expected {
+// Whether reading these bytes gives this answer, and with answer 0 the message with these fields and data.
+pub(crate) fn reads(f: Fields, data: &[u8], s: &[u8], expected: u8) -> bool {
+    let r = read(fields::layout(f.0).1, s);
+    if r.0 != expected {
         return false;
     }
     if expected != number::DONE {
         return true;
     }
-    if to_host {
-        return reply_is(command, f, s);
+    let g = r.1;
+    if fields::same(f, g) {
+        return part_is(s, r.2, r.3, data);
     }
-    request_is(command, f, s)
+    false
 }

@@ -1,55 +1,46 @@
 // Source 001's tables of settings commands, printed without their checksum. The source's own rule for it: all bytes and 37, by exclusive or, are 59.
-use crate::builder;
 use crate::fields;
+use crate::fields::Fields;
 use crate::number;
-use crate::reader;
 use crate::tally::Tally;
-use message::Built;
-use message::request;
-use message_rules::TO_DISPLAY;
+use crate::vector;
 
-// Whether these seven bytes are the command with a checksum by the source's rule.
-fn closes(command: &[u8], s: &[u8]) -> bool {
-    if s.len() != 7 {
-        return false;
-    }
-    let sum = 0x37 ^ s[0] ^ s[1] ^ s[2] ^ s[3] ^ s[4] ^ s[5] ^ s[6];
-    sum == 0x59 && check::same(&s[0..6], command)
+// Whether the Set of a code and a value is the command with a checksum by the source's rule.
+fn holds(code: u8, high: u8, low: u8) -> bool {
+    let sum = 0x59 ^ 0x37 ^ 0x51 ^ 0x84 ^ 0x03 ^ code ^ high ^ low;
+    let s = [0x51, 0x84, 0x03, code, high, low, sum];
+    let f = Fields(0x03, code, 0, 0, fields::word(high, low), 0);
+    vector::holds(f, b"", &s, number::DONE)
 }
 
-// Whether the Set that is built from a code and a value is this command with its checksum, and is read back to them.
-fn holds(f: &[u8], command: &[u8]) -> bool {
-    let mut space = [builder::BLANK; 44];
-    let out: &mut [u8] = &mut space;
-    match request::build_set(TO_DISPLAY, fields::octet(f, 0), fields::word(f, 1), out) {
-        Built::Done(n) => {
-            let s = fields::part(out, 0, n);
-            closes(command, s) && reader::reads(0x03, f, s, number::DONE)
-        }
-        Built::Refused(_) => false,
-    }
-}
-
-// A row with a range: so many commands, whose last two bytes go on by these steps.
-pub(crate) fn range(f: &[u8], command: &[u8], high: u8, low: u8, count: u8) -> Tally {
+// The value of these two bytes, and so many more that go on by these steps.
+fn range(code: u8, high: u8, low: u8, high_step: u8, low_step: u8, more: u8) -> Tally {
     let mut sum = Tally(0, 0);
-    let mut value = [
-        fields::octet(f, 0),
-        fields::octet(f, 1),
-        fields::octet(f, 2),
-    ];
-    let mut row = [0u8; 6];
-    if command.len() != 6 {
-        return Tally(0, 1);
-    }
-    bytes::copy(command, &mut row);
-    for _ in 0..count {
-        let next = sum.count(holds(&value, &row));
+    let mut h = high;
+    let mut l = low;
+    for _ in 0..=more {
+        let next = sum.count(holds(code, h, l));
         sum = next;
-        value[1] = std::num::wrapping_add_u8(value[1], high);
-        value[2] = std::num::wrapping_add_u8(value[2], low);
-        row[4] = std::num::wrapping_add_u8(row[4], high);
-        row[5] = std::num::wrapping_add_u8(row[5], low);
+        h = std::num::wrapping_add_u8(h, high_step);
+        l = std::num::wrapping_add_u8(l, low_step);
     }
     sum
+}
+
+// A row: code and value, as they are printed; for a range also the step, and how many more there are. None where it has other fields.
+pub(crate) fn row(f: &[u8], s: &[u8]) -> Tally {
+    if f.len() < 3 {
+        return Tally(0, 0);
+    }
+    let printed = [0x51, 0x84, 0x03, f[0], f[1], f[2]];
+    if !check::same(s, &printed) {
+        return Tally(0, 1);
+    }
+    if f.len() == 3 {
+        return range(f[0], f[1], f[2], 0, 0, 0);
+    }
+    if f.len() == 6 {
+        return range(f[0], f[1], f[2], f[3], f[4], f[5]);
+    }
+    Tally(0, 0)
 }

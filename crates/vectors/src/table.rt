@@ -8,9 +8,6 @@ use crate::tally::Tally;
 // The answer to a message of n bytes, this command and zeros, with this length byte; `flaw` is what its checksum is wrong by.
 fn framed(to_host: bool, length: u8, command: u8, n: u8, flaw: u8) -> u8 {
     let end = n as usize + 2;
-    if end < 3 {
-        return number::DISAGREE;
-    }
     let first = if to_host { 0x6E } else { 0x51 };
     let seed = if to_host { 0x50 } else { 0x6E };
     let mut s = [0u8; 258];
@@ -23,12 +20,12 @@ fn framed(to_host: bool, length: u8, command: u8, n: u8, flaw: u8) -> u8 {
 
 // The table's answer to a body of n bytes, this command and zeros, with the right length byte and checksum. Zeros are allowed in every field.
 fn expected(to_host: bool, command: u8, n: u8) -> u8 {
-    let layout = fields::layout(command);
-    if !layout.0 || layout.1 != to_host {
+    let shape = fields::layout(command);
+    if !shape.0 || shape.1 != to_host {
         return number::UNKNOWN_COMMAND;
     }
-    let least = layout.2 as usize + 1;
-    let most = least + layout.3 as usize;
+    let least = shape.2 as usize + shape.3 as usize + 1;
+    let most = least + shape.4 as usize;
     let length = n as usize;
     if length < least || most < length {
         return number::WRONG_FIELD;

@@ -1,4 +1,5 @@
 // Document 01's rules for single fields, run over every value of the field.
+use crate::fields::Fields;
 use crate::number;
 use crate::reader;
 use crate::tally::Tally;
@@ -6,18 +7,18 @@ use crate::vector;
 
 // A Timing reply with this status: its bits 5 to 2 must be 0.
 fn status_holds(status: u8) -> bool {
-    let f = [status, 0x34, 0x1C, 0x17, 0x70];
+    let f = Fields(0x4E, status, 0, 0, 0x341C, 0x1770);
     let sum = 0x39 ^ status;
     let s = [0x6E, 0x06, 0x4E, status, 0x34, 0x1C, 0x17, 0x70, sum];
     if status & 0x3C == 0 {
-        return vector::holds(0x4E, &f, &s, number::DONE);
+        return vector::holds(f, b"", &s, number::DONE);
     }
-    vector::holds(0x4E, &f, &s, number::WRONG_FIELD)
+    vector::holds(f, b"", &s, number::WRONG_FIELD)
 }
 
 // A Value reply with this result and type: each must be 0 or 1.
 fn value_holds(result: u8, kind: u8) -> bool {
-    let f = [result, 0x10, kind, 0x12, 0x34, 0x56, 0x78];
+    let f = Fields(0x02, result, 0x10, kind, 0x1234, 0x5678);
     let sum = 0xAC ^ result ^ kind;
     let s = [
         0x6E,
@@ -33,9 +34,9 @@ fn value_holds(result: u8, kind: u8) -> bool {
         sum,
     ];
     if result < 2 && kind < 2 {
-        return vector::holds(0x02, &f, &s, number::DONE);
+        return vector::holds(f, b"", &s, number::DONE);
     }
-    vector::holds(0x02, &f, &s, number::WRONG_FIELD)
+    vector::holds(f, b"", &s, number::WRONG_FIELD)
 }
 
 // Replies of no body with this last byte. The null message alone has the right checksum; the plain form needs 4E in a body.

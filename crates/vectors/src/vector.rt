@@ -1,13 +1,13 @@
 // One vector: bytes and fields, both known beforehand. The bytes are read to the fields, and built from them.
 use crate::builder;
-use crate::damage;
 use crate::fields;
+use crate::fields::Fields;
 use crate::number;
 use crate::reader;
 use crate::tally::Tally;
 
 // The builder's answer to fields whose message is read with this answer: 7 for fields that are not allowed. The null message is built.
-fn builder_answer(answer: u8) -> u8 {
+pub(crate) fn builder_answer(answer: u8) -> u8 {
     if answer == number::DONE || answer == number::NULL_MESSAGE {
         return number::DONE;
     }
@@ -15,34 +15,34 @@ fn builder_answer(answer: u8) -> u8 {
 }
 
 // The output that a reply was built into has other bytes behind it, and is read too.
-pub(crate) fn holds(command: u8, f: &[u8], s: &[u8], answer: u8) -> bool {
+pub(crate) fn holds(f: Fields, data: &[u8], s: &[u8], answer: u8) -> bool {
     let mut space = [builder::BLANK; 44];
     let out: &mut [u8] = &mut space;
     let built = builder_answer(answer);
-    if !builder::builds(command, f, s, built, out) {
+    if !builder::builds(f, data, s, built, out) {
         return false;
     }
-    if built == number::DONE && fields::layout(command).1 {
-        if !reader::reads(command, f, out, answer) {
+    if built == number::DONE && fields::layout(f.0).1 {
+        if !reader::reads(f, data, out, answer) {
             return false;
         }
     }
-    reader::reads(command, f, s, answer)
+    reader::reads(f, data, s, answer)
 }
 
 // 37 bytes of output are 1 before any field is judged, and 38 are enough for every message.
-pub(crate) fn room(command: u8, f: &[u8], s: &[u8], answer: u8) -> Tally {
+pub(crate) fn room(f: Fields, data: &[u8], s: &[u8], answer: u8) -> Tally {
     let mut narrow = [builder::BLANK; 37];
     let mut enough = [builder::BLANK; 38];
-    let refused = builder::builds(command, f, s, number::WRONG_SIZE, &mut narrow);
-    let built = builder::builds(command, f, s, builder_answer(answer), &mut enough);
+    let refused = builder::builds(f, data, s, number::WRONG_SIZE, &mut narrow);
+    let built = builder::builds(f, data, s, builder_answer(answer), &mut enough);
     Tally(0, 0).count(refused).count(built)
 }
 
-// The damaged variants of a message that is built; of other bytes there are none.
-pub(crate) fn damaged(command: u8, s: &[u8], answer: u8) -> Tally {
-    if builder_answer(answer) == number::DONE {
-        return damage::variants(fields::layout(command).1, s, answer);
+// A message of which only the reader's answer is judged, so that it has no fields.
+pub(crate) fn reading(to_host: bool, f: &[u8], s: &[u8], answer: u8) -> Tally {
+    if f.len() != 0 {
+        return Tally(0, 0);
     }
-    Tally(0, 0)
+    Tally(0, 0).count(reader::answer(to_host, s) == answer)
 }

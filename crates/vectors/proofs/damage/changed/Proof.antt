@@ -21,6 +21,18 @@ changed-byte-requires c κs = search needs
 join-requires : tie.Need-join-requires Inv-loop μ-loop
 join-requires c κs = search needs
 
+part-requires : tie.Need-part-requires Inv-loop μ-loop
+part-requires c κs = search needs
+
+answer-requires : tie.Need-answer-requires Inv-loop μ-loop
+answer-requires c κs = search needs
+
+flawed-requires : tie.Need-flawed-requires Inv-loop μ-loop
+flawed-requires c κs = search needs
+
+count-requires : tie.Need-count-requires Inv-loop μ-loop
+count-requires c κs = search needs
+
 add-i : tie.Need-add-i Inv-loop μ-loop
 add-i c = search needs
 
@@ -45,6 +57,10 @@ changed-spec =
     loop-holds
     changed-byte-requires
     join-requires
+    part-requires
+    answer-requires
+    flawed-requires
+    count-requires
     add-i
     loop-less
     loop-again

@@ -53,8 +53,13 @@ fn blank_from(out: &[u8], at: usize) -> bool {
 pub(crate) fn builds(f: Fields, data: &[u8], s: &[u8], expected: u8, out: &mut [u8]) -> bool {
     match build(f, data, out) {
         Built::Done(n) => {
-            let right = expected == number::DONE && check::same(fields::part(out, 0, n), s);
-            right && blank_from(out, n)
+            if expected != number::DONE {
+                return false;
+            }
+            if check::same(fields::part(out, 0, n), s) {
+                return blank_from(out, n);
+            }
+            false
         }
         Built::Refused(refusal) => refusal == expected && blank_from(out, 0),
     }

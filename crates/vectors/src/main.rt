@@ -35,13 +35,17 @@ struct Progress {
     damaged: Tally,
 }
 
+// Writes a text and a number behind it.
+fn say(file: i32, text: &[u8], n: u32) {
+    io::write_all(file, text);
+    io::print_decimal(file, n as u64);
+}
+
 // Writes the rest of a group's line. Returns the tally of all groups up to it.
 fn close(p: Progress) -> Tally {
     if p.begun {
-        io::write_all(STDOUT_FILENO, b": ");
-        io::print_decimal(STDOUT_FILENO, p.group.0 as u64);
-        io::write_all(STDOUT_FILENO, b" of ");
-        io::print_decimal(STDOUT_FILENO, p.group.1 as u64);
+        say(STDOUT_FILENO, b": ", p.group.0);
+        say(STDOUT_FILENO, b" of ", p.group.1);
         io::write_all(STDOUT_FILENO, b"\n");
     }
     p.total.join(p.group)
@@ -59,14 +63,12 @@ fn begin(mut p: Progress, name: &[u8], group: Tally) -> Progress {
 
 fn verdict(t: Tally) {
     if t.0 == t.1 {
-        io::write_all(STDOUT_FILENO, b"all ");
-        io::print_decimal(STDOUT_FILENO, t.1 as u64);
+        say(STDOUT_FILENO, b"all ", t.1);
         io::write_all(STDOUT_FILENO, b" vectors hold\n");
         return;
     }
-    io::print_decimal(STDOUT_FILENO, std::num::wrapping_sub_u32(t.1, t.0) as u64);
-    io::write_all(STDOUT_FILENO, b" of ");
-    io::print_decimal(STDOUT_FILENO, t.1 as u64);
+    say(STDOUT_FILENO, b"", std::num::wrapping_sub_u32(t.1, t.0));
+    say(STDOUT_FILENO, b" of ", t.1);
     io::write_all(STDOUT_FILENO, b" vectors fail\n");
 }
 
@@ -118,7 +120,7 @@ fn add(mut p: Progress, t: Tally) -> Progress {
 
 // An answer number is written in decimal.
 fn judge(p: Progress, command: u8, f: &[u8], s: &[u8], behind: &[u8]) -> Progress {
-    if behind.len() > 1 {
+    if behind.len() > 1 || (command == line::SETTING && behind.len() != 0) {
         return stop(p);
     }
     let digits = fields::octet(behind, 0);
@@ -132,6 +134,9 @@ fn judge(p: Progress, command: u8, f: &[u8], s: &[u8], behind: &[u8]) -> Progres
 }
 
 fn run_pairs(p: Progress, command: u8, row: line::Row, octets: &[u8]) -> Progress {
+    if row.stage == line::MALFORMED || command == line::UNKNOWN {
+        return stop(p);
+    }
     let f = fields::part(octets, 0, row.fields);
     let s = fields::part(octets, row.fields, row.bytes);
     judge(p, command, f, s, fields::part(octets, row.bytes, row.count))
@@ -143,9 +148,6 @@ fn run_vector(p: Progress, s: &[u8]) -> Progress {
     let end = bytes::scan::find(s, 0, s.len(), b' ');
     let row = line::pairs(&s[end..], octets);
     let command = line::command(&s[0..end]);
-    if row.stage == line::MALFORMED || command == line::UNKNOWN {
-        return stop(p);
-    }
     run_pairs(p, command, row, octets)
 }
 
@@ -180,7 +182,8 @@ fn run_lines(first: Progress, s: &[u8]) -> Progress {
         p = next;
         number = std::num::wrapping_add_u32(number, 1);
         if p.stopped {
-            refuse_line(number);
+            say(STDERR_FILENO, b"vectors: malformed line ", number);
+            io::write_all(STDERR_FILENO, b"\n");
             return p;
         }
         if end == s.len() {
@@ -189,12 +192,6 @@ fn run_lines(first: Progress, s: &[u8]) -> Progress {
         at = end + 1;
     }
     p
-}
-
-fn refuse_line(number: u32) {
-    io::write_all(STDERR_FILENO, b"vectors: line ");
-    io::print_decimal(STDERR_FILENO, number as u64);
-    io::write_all(STDERR_FILENO, b" of the input is malformed\n");
 }
 
 // The input's groups. An input that is too long, or has no vectors, is refused.

@@ -32,15 +32,18 @@ pub(crate) fn row(f: &[u8], s: &[u8]) -> Tally {
     if f.len() < 3 {
         return Tally(0, 0);
     }
-    let printed = [0x51, 0x84, 0x03, f[0], f[1], f[2]];
+    let code = f[0];
+    let high = f[1];
+    let low = f[2];
+    let printed = [0x51, 0x84, 0x03, code, high, low];
     if !check::same(s, &printed) {
         return Tally(0, 1);
     }
     if f.len() == 3 {
-        return range(f[0], f[1], f[2], 0, 0, 0);
+        return range(code, high, low, 0, 0, 0);
     }
     if f.len() == 6 {
-        return range(f[0], f[1], f[2], f[3], f[4], f[5]);
+        return range(code, high, low, f[3], f[4], f[5]);
     }
     Tally(0, 0)
 }

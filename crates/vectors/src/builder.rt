@@ -12,6 +12,11 @@ use message_rules::TextOffset;
 // What every byte of an output is before.
 pub(crate) const BLANK: u8 = 0xA5;
 
+// The bytes of output that every builder needs, written down once more, and an output with bytes behind every message.
+pub(crate) const ROOM: usize = 38;
+
+pub(crate) const WIDE: usize = 44;
+
 fn build_reply(f: Fields, data: &[u8], out: &mut [u8]) -> Built {
     let command = f.0;
     match command {

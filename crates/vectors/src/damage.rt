@@ -29,7 +29,7 @@ fn flawed(to_host: bool, s: &[u8]) -> u8 {
         return number::WRONG_LENGTH;
     }
     let length = n as usize + 3;
-    if length > 38 || s.len() < length {
+    if n > number::LONGEST_BODY || s.len() < length {
         return number::WRONG_LENGTH;
     }
     if to_host || s.len() == length {
@@ -71,7 +71,7 @@ fn changed(to_host: bool, s: &mut [u8]) -> Tally {
 // All of them for one message that is read with this answer; none for bytes that no builder makes. A byte behind a request is 4; one behind
 // a reply is ignored. Where there is no room for one byte more, that counts as one vector that fails.
 pub(crate) fn variants(to_host: bool, s: &[u8], answer: u8) -> Tally {
-    let mut space = [builder::BLANK; 44];
+    let mut space = [builder::BLANK; builder::WIDE];
     let room: &mut [u8] = &mut space;
     let n = s.len();
     if vector::builder_answer(answer) != number::DONE {

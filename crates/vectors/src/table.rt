@@ -38,7 +38,7 @@ fn lengths(to_host: bool, command: u8) -> Tally {
     let mut sum = Tally(0, 0);
     for n in 1..128u8 {
         let right = n ^ damage::form(to_host, n, command);
-        let long = n > 35;
+        let long = n > number::LONGEST_BODY;
         let wanted = if long {
             number::WRONG_LENGTH
         } else {

@@ -16,7 +16,7 @@ pub(crate) fn builder_answer(answer: u8) -> u8 {
 
 // The output that a reply was built into has other bytes behind it, and is read too.
 pub(crate) fn holds(f: Fields, data: &[u8], s: &[u8], answer: u8) -> bool {
-    let mut space = [builder::BLANK; 44];
+    let mut space = [builder::BLANK; builder::WIDE];
     let out: &mut [u8] = &mut space;
     let built = builder_answer(answer);
     if !builder::builds(f, data, s, built, out) {
@@ -32,8 +32,8 @@ pub(crate) fn holds(f: Fields, data: &[u8], s: &[u8], answer: u8) -> bool {
 
 // 37 bytes of output are 1 before any field is judged, and 38 are enough for every message.
 pub(crate) fn room(f: Fields, data: &[u8], s: &[u8], answer: u8) -> Tally {
-    let mut narrow = [builder::BLANK; 37];
-    let mut enough = [builder::BLANK; 38];
+    let mut narrow = [builder::BLANK; builder::ROOM - 1];
+    let mut enough = [builder::BLANK; builder::ROOM];
     let refused = builder::builds(f, data, s, number::WRONG_SIZE, &mut narrow);
     let built = builder::builds(f, data, s, builder_answer(answer), &mut enough);
     Tally(0, 0).count(refused).count(built)

@@ -1,5 +1,5 @@
 // A line of the input: a word, then pairs of hexadecimal digits, with "=" in front of the message's bytes and ":" in front of an answer.
-use crate::fields;
+use vector_checks::fields;
 
 // The words that are no message's name: a request and a reply of which only the reading is judged, a setting of source 001, and no word at all.
 pub(crate) const REQUEST: u8 = 0x51;

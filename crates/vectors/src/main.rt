@@ -1,22 +1,18 @@
 // Runs the vectors of standard input, then document 01's rules for single fields and its table of messages whole, and writes one line a group.
 // The form of the input stands at its head, in the file stdin.
-mod builder;
-mod damage;
-mod fields;
 mod line;
-mod number;
-mod reader;
 mod setting;
-mod table;
-mod tally;
-mod values;
-mod vector;
 
-use fields::Fields;
 use libc::STDERR_FILENO;
 use libc::STDIN_FILENO;
 use libc::STDOUT_FILENO;
-use tally::Tally;
+use vector_checks::damage;
+use vector_checks::fields;
+use vector_checks::fields::Fields;
+use vector_checks::table;
+use vector_checks::tally::Tally;
+use vector_checks::values;
+use vector_checks::vector;
 
 // One byte more than the longest input.
 const INPUT_ROOM: usize = 16384;

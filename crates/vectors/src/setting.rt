@@ -1,9 +1,9 @@
 // Source 001's tables of settings commands, printed without their checksum. The source's own rule for it: all bytes and 37, by exclusive or, are 59.
-use crate::fields;
-use crate::fields::Fields;
-use crate::number;
-use crate::tally::Tally;
-use crate::vector;
+use vector_checks::fields;
+use vector_checks::fields::Fields;
+use vector_checks::number;
+use vector_checks::tally::Tally;
+use vector_checks::vector;
 
 // Whether the Set of a code and a value is the command with a checksum by the source's rule.
 fn holds(code: u8, high: u8, low: u8) -> bool {

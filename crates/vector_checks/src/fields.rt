@@ -1,25 +1,12 @@
 // The fields of a message: its command number, at most three single bytes and two 16-bit words, each 0 where it has none. Data stand apart.
-pub(crate) struct Fields(
-    pub(crate) u8,
-    pub(crate) u8,
-    pub(crate) u8,
-    pub(crate) u8,
-    pub(crate) u16,
-    pub(crate) u16,
-);
+pub struct Fields(pub u8, pub u8, pub u8, pub u8, pub u16, pub u16);
 
 // A row of document 01's table: whether the command is in it, whether the message is a reply, how many single bytes and how many bytes of
 // words it has, and how much data at most.
-pub(crate) struct Shape(
-    pub(crate) bool,
-    pub(crate) bool,
-    pub(crate) u8,
-    pub(crate) u8,
-    pub(crate) u8,
-);
+pub struct Shape(pub bool, pub bool, pub u8, pub u8, pub u8);
 
 // The table, written down once more. The null message, which has no command, is a reply without fields.
-pub(crate) fn layout(command: u8) -> Shape {
+pub fn layout(command: u8) -> Shape {
     match command {
         0x01 => Shape(true, false, 1, 0, 0),
         0x03 => Shape(true, false, 1, 2, 0),
@@ -37,7 +24,7 @@ pub(crate) fn layout(command: u8) -> Shape {
 }
 
 // The bytes of s from `start` to `end`, or none where it has no such part.
-pub(crate) fn part(s: &[u8], start: usize, end: usize) -> &[u8] {
+pub fn part(s: &[u8], start: usize, end: usize) -> &[u8] {
     if start <= end {
         if end <= s.len() {
             return &s[start..end];
@@ -47,19 +34,19 @@ pub(crate) fn part(s: &[u8], start: usize, end: usize) -> &[u8] {
 }
 
 // The byte at an index, or 0 past the end.
-pub(crate) fn octet(s: &[u8], at: usize) -> u8 {
+pub fn octet(s: &[u8], at: usize) -> u8 {
     if at < s.len() {
         return s[at];
     }
     0
 }
 
-pub(crate) fn word(high: u8, low: u8) -> u16 {
+pub fn word(high: u8, low: u8) -> u16 {
     high as u16 * 256 + low as u16
 }
 
 // The fields from the single bytes and the words of a message, the high byte of each word first.
-pub(crate) fn gather(command: u8, b: &[u8], w: &[u8]) -> Fields {
+pub fn gather(command: u8, b: &[u8], w: &[u8]) -> Fields {
     let first = word(octet(w, 0), octet(w, 1));
     let second = word(octet(w, 2), octet(w, 3));
     Fields(
@@ -72,7 +59,7 @@ pub(crate) fn gather(command: u8, b: &[u8], w: &[u8]) -> Fields {
     )
 }
 
-pub(crate) fn same(f: Fields, g: Fields) -> bool {
+pub fn same(f: Fields, g: Fields) -> bool {
     if f.0 != g.0 || f.1 != g.1 || f.2 != g.2 {
         return false;
     }

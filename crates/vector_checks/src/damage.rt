@@ -7,7 +7,7 @@ use crate::tally::Tally;
 use crate::vector;
 
 // The bit that a length byte has beside n: none in a reply whose body begins with 4E.
-pub(crate) fn form(to_host: bool, n: u8, command: u8) -> u8 {
+pub fn form(to_host: bool, n: u8, command: u8) -> u8 {
     if to_host && command == 0x4E && n != 0 {
         return 0;
     }
@@ -70,7 +70,7 @@ fn changed(to_host: bool, s: &mut [u8]) -> Tally {
 
 // All of them for one message that is read with this answer; none for bytes that no builder makes. A byte behind a request is 4; one behind
 // a reply is ignored. Where there is no room for one byte more, that counts as one vector that fails.
-pub(crate) fn variants(to_host: bool, s: &[u8], answer: u8) -> Tally {
+pub fn variants(to_host: bool, s: &[u8], answer: u8) -> Tally {
     let mut space = [builder::BLANK; builder::WIDE];
     let room: &mut [u8] = &mut space;
     let n = s.len();

@@ -7,7 +7,7 @@ use crate::reader;
 use crate::tally::Tally;
 
 // The builder's answer to fields whose message is read with this answer: 7 for fields that are not allowed. The null message is built.
-pub(crate) fn builder_answer(answer: u8) -> u8 {
+pub fn builder_answer(answer: u8) -> u8 {
     if answer == number::DONE || answer == number::NULL_MESSAGE {
         return number::DONE;
     }
@@ -15,7 +15,7 @@ pub(crate) fn builder_answer(answer: u8) -> u8 {
 }
 
 // The output that a reply was built into has other bytes behind it, and is read too.
-pub(crate) fn holds(f: Fields, data: &[u8], s: &[u8], answer: u8) -> bool {
+pub fn holds(f: Fields, data: &[u8], s: &[u8], answer: u8) -> bool {
     let mut space = [builder::BLANK; builder::WIDE];
     let out: &mut [u8] = &mut space;
     let built = builder_answer(answer);
@@ -31,7 +31,7 @@ pub(crate) fn holds(f: Fields, data: &[u8], s: &[u8], answer: u8) -> bool {
 }
 
 // 37 bytes of output are 1 before any field is judged, and 38 are enough for every message.
-pub(crate) fn room(f: Fields, data: &[u8], s: &[u8], answer: u8) -> Tally {
+pub fn room(f: Fields, data: &[u8], s: &[u8], answer: u8) -> Tally {
     let mut narrow = [builder::BLANK; builder::ROOM - 1];
     let mut enough = [builder::BLANK; builder::ROOM];
     let refused = builder::builds(f, data, s, number::WRONG_SIZE, &mut narrow);
@@ -40,7 +40,7 @@ pub(crate) fn room(f: Fields, data: &[u8], s: &[u8], answer: u8) -> Tally {
 }
 
 // A message of which only the reader's answer is judged, so that it has no fields.
-pub(crate) fn reading(to_host: bool, f: &[u8], s: &[u8], answer: u8) -> Tally {
+pub fn reading(to_host: bool, f: &[u8], s: &[u8], answer: u8) -> Tally {
     if f.len() != 0 {
         return Tally(0, 0);
     }

@@ -1,10 +1,10 @@
--- `vectors::damage::changed_byte` is safe and ends. The invariant: the slice keeps its length. The measure is what is left of the 255 flaws.
+-- `vector_checks::damage::changed_byte` is safe and ends. The invariant: the slice keeps its length. The measure is what is left of the 255 flaws.
 use mathlib.Core.Path.{_≡_}
 use Prim.Native.Nat.{_≤_, _-_}
 use lib.ListN.{length}
 use borrow.Author.Needs.{needs}
-use Rattle.vectors.proofs.damage.changed_byte.Statement.{statement}
-use Rattle.vectors.proofs.damage.changed_byte.Tie as tie
+use Rattle.vector_checks.proofs.damage.changed_byte.Statement.{statement}
+use Rattle.vector_checks.proofs.damage.changed_byte.Tie as tie
 
 abbrev Inv-loop : tie.InvT-loop
 Inv-loop to-host s₀ i sum₀ old flaw₀ s sum flaw = (length s ≡ length s₀) × (flaw ≤ 255)

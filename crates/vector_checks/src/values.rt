@@ -53,7 +53,7 @@ fn empty_holds(last: u8) -> bool {
 }
 
 // Every last byte of a reply of no body, every status, every result with either type, every type with either result.
-pub(crate) fn all() -> Tally {
+pub fn all() -> Tally {
     let mut sum = Tally(0, 0);
     for field in 0..=255u8 {
         let empty = sum.count(empty_holds(field));

@@ -1,8 +1,8 @@
--- `vectors::table::lengths` is safe and ends. The measure is what is left of the lengths up to 127.
+-- `vector_checks::table::lengths` is safe and ends. The measure is what is left of the lengths up to 127.
 use Prim.Native.Nat.{_≤_, _-_}
 use borrow.Author.Needs.{needs}
-use Rattle.vectors.proofs.table.lengths.Statement.{statement}
-use Rattle.vectors.proofs.table.lengths.Tie as tie
+use Rattle.vector_checks.proofs.table.lengths.Statement.{statement}
+use Rattle.vector_checks.proofs.table.lengths.Tie as tie
 
 abbrev Inv-loop : tie.InvT-loop
 Inv-loop to-host command sum₀ n₀ sum n = n ≤ 128

@@ -1,10 +1,10 @@
--- `vectors::damage::changed` is safe and ends. The invariant: the slice keeps its length. The measure is what is left of it.
+-- `vector_checks::damage::changed` is safe and ends. The invariant: the slice keeps its length. The measure is what is left of it.
 use mathlib.Core.Path.{_≡_}
 use Prim.Native.Nat.{_≤_, _-_}
 use lib.ListN.{length}
 use borrow.Author.Needs.{needs}
-use Rattle.vectors.proofs.damage.changed.Statement.{statement}
-use Rattle.vectors.proofs.damage.changed.Tie as tie
+use Rattle.vector_checks.proofs.damage.changed.Statement.{statement}
+use Rattle.vector_checks.proofs.damage.changed.Tie as tie
 
 abbrev Inv-loop : tie.InvT-loop
 Inv-loop to-host s₀ sum₀ i₀ i-end s sum i = (length s ≡ length s₀) × (i ≤ i-end)

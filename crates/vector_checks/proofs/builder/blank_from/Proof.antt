@@ -1,9 +1,9 @@
--- `vectors::builder::blank_from` is safe and ends. The measure is what is left of the output; nothing else need hold.
+-- `vector_checks::builder::blank_from` is safe and ends. The measure is what is left of the output; nothing else need hold.
 use Prim.Native.Nat.{_≤_, _-_}
 use lib.ListN.{length}
 use borrow.Author.Needs.{needs}
-use Rattle.vectors.proofs.builder.blank_from.Statement.{statement}
-use Rattle.vectors.proofs.builder.blank_from.Tie as tie
+use Rattle.vector_checks.proofs.builder.blank_from.Statement.{statement}
+use Rattle.vector_checks.proofs.builder.blank_from.Tie as tie
 
 abbrev Inv-loop : tie.InvT-loop
 Inv-loop out at i₀ i = 0 ≤ i

@@ -1,8 +1,8 @@
 // How many vectors hold, and how many were tried.
-pub(crate) struct Tally(pub(crate) u32, pub(crate) u32);
+pub struct Tally(pub u32, pub u32);
 
 impl Tally {
-    pub(crate) fn count(self, holds: bool) -> Tally {
+    pub fn count(self, holds: bool) -> Tally {
         let tried = std::num::wrapping_add_u32(self.1, 1);
         if holds {
             return Tally(std::num::wrapping_add_u32(self.0, 1), tried);
@@ -10,7 +10,7 @@ impl Tally {
         Tally(self.0, tried)
     }
 
-    pub(crate) fn join(self, other: Tally) -> Tally {
+    pub fn join(self, other: Tally) -> Tally {
         let held = std::num::wrapping_add_u32(self.0, other.0);
         Tally(held, std::num::wrapping_add_u32(self.1, other.1))
     }

@@ -1,8 +1,8 @@
--- `vectors::table::all` is safe and ends. The measure is what is left of the 256 command numbers.
+-- `vector_checks::table::all` is safe and ends. The measure is what is left of the 256 command numbers.
 use Prim.Native.Nat.{_≤_, _-_}
 use borrow.Author.Needs.{needs}
-use Rattle.vectors.proofs.table.all.Statement.{statement}
-use Rattle.vectors.proofs.table.all.Tie as tie
+use Rattle.vector_checks.proofs.table.all.Statement.{statement}
+use Rattle.vector_checks.proofs.table.all.Tie as tie
 
 abbrev Inv-loop : tie.InvT-loop
 Inv-loop to-host sum₀ command₀ sum command = command ≤ 255

@@ -58,7 +58,7 @@ fn lengths(to_host: bool, command: u8) -> Tally {
     sum
 }
 
-pub(crate) fn all(to_host: bool) -> Tally {
+pub fn all(to_host: bool) -> Tally {
     let mut sum = Tally(0, 0);
     for command in 0..=255u8 {
         let next = sum.join(lengths(to_host, command));

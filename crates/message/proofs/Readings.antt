@@ -62,7 +62,7 @@ request-placed Timing s room h = record { means = refl; inside = tt }
 request-placed Save s room h = record { means = refl; inside = tt }
 request-placed Text s room h = record { means = refl; inside = tt }
 request-placed TableRead s room h = record { means = refl; inside = tt }
-request-placed TableWrite s room h = record { means = ap (λ (l : List ℕ). ok (tableWrite (getD s 3 0) (word s 4) l)) (rest-from s 4 3 (omega arith)); inside = omega arith }
+request-placed TableWrite s room h = record { means = ap (λ (l : List ℕ). ok (tableWrite (getD s 3 0) (word s 4) l)) (rest-from s 4 3 (omega arith)); inside = (refl, omega arith) }
 
 pub least-request : {c k : RequestKind} {n : ℕ} → c ≡ k → least (layoutOf (kind.Request c)) ≤ n → least (layoutOf (kind.Request k)) ≤ n
 least-request {n = n} e h = subst (λ (x : RequestKind). least (layoutOf (kind.Request x)) ≤ n) e h
@@ -98,8 +98,8 @@ reply-placed Value s room h =
 reply-placed TimingReply s room h =
     let m : Reply = timingReply (getD s 3 0) (word s 4) (word s 6) in
     means-of (require-as (eqb (getD s 3 0 / 4 % 16) 0) m (ok m) refl _ (asMessage replies) refl) (ruled s (eqb (getD s 3 0 / 4 % 16) 0) _ m (record { means = refl; inside = tt }))
-reply-placed TextFragment s room h = record { means = ap (λ (l : List ℕ). ok (textFragment (word s 3) l)) (rest-from s 3 2 (omega arith)); inside = omega arith }
-reply-placed TableFragment s room h = record { means = ap (λ (l : List ℕ). ok (tableFragment (word s 3) l)) (rest-from s 3 2 (omega arith)); inside = omega arith }
+reply-placed TextFragment s room h = record { means = ap (λ (l : List ℕ). ok (textFragment (word s 3) l)) (rest-from s 3 2 (omega arith)); inside = (refl, omega arith) }
+reply-placed TableFragment s room h = record { means = ap (λ (l : List ℕ). ok (tableFragment (word s 3) l)) (rest-from s 3 2 (omega arith)); inside = (refl, omega arith) }
 
 pub least-reply : {c k : ReplyKind} {n : ℕ} → c ≡ k → least (layoutOf (kind.Reply c)) ≤ n → least (layoutOf (kind.Reply k)) ≤ n
 least-reply {n = n} e h = subst (λ (x : ReplyKind). least (layoutOf (kind.Reply x)) ≤ n) e h

@@ -40,7 +40,14 @@ replyIn s (replyRead.TextFragment o at n) = ok (textFragment (o .0) (partOf s at
 replyIn s (replyRead.TableFragment o at n) = ok (tableFragment (o .0) (partOf s at n))
 replyIn s (replyRead.Refused k) = refused k
 
--- the data that a result names lie in the slice
+-- where the data of a Table write stand, behind 51, length byte, E7, code and offset; and those of a fragment, which has no code
+abbrev pub writtenAt : ℕ
+writtenAt = 6
+
+abbrev pub fragmentAt : ℕ
+fragmentAt = 5
+
+-- the data that a result names stand there, and lie in the slice
 abbrev pub RequestInside : List ℕ → RequestRead → Type 0
 RequestInside s (requestRead.Get c) = Unit {0}
 RequestInside s (requestRead.Set c v) = Unit {0}
@@ -48,14 +55,14 @@ RequestInside s requestRead.Timing = Unit {0}
 RequestInside s requestRead.Save = Unit {0}
 RequestInside s (requestRead.Text o) = Unit {0}
 RequestInside s (requestRead.TableRead c o) = Unit {0}
-RequestInside s (requestRead.TableWrite c o at n) = at .0 + n ≤ length s
+RequestInside s (requestRead.TableWrite c o at n) = (at .0 ≡ writtenAt) × (at .0 + n ≤ length s)
 RequestInside s (requestRead.Refused k) = Unit {0}
 
 abbrev pub ReplyInside : List ℕ → ReplyRead → Type 0
 ReplyInside s (replyRead.Value r c t m p) = Unit {0}
 ReplyInside s (replyRead.Timing st h v) = Unit {0}
-ReplyInside s (replyRead.TextFragment o at n) = at .0 + n ≤ length s
-ReplyInside s (replyRead.TableFragment o at n) = at .0 + n ≤ length s
+ReplyInside s (replyRead.TextFragment o at n) = (at .0 ≡ fragmentAt) × (at .0 + n ≤ length s)
+ReplyInside s (replyRead.TableFragment o at n) = (at .0 ≡ fragmentAt) × (at .0 + n ≤ length s)
 ReplyInside s (replyRead.Refused k) = Unit {0}
 
 -- a reader's result r stands for x, and what it names of the slice is in it

@@ -77,10 +77,10 @@ found-of k s (reply.Refused n) = refl
 inside-of : (k : TextKind) (s : List ℕ) (r : ReplyRead) → ReplyInside s r → FragmentInside s (ofKind k r)
 inside-of k s (reply.Value a b c d e) h = tt
 inside-of k s (reply.Timing a b c) h = tt
-inside-of Capabilities s (reply.TextFragment o at n) h = h
+inside-of Capabilities s (reply.TextFragment o at n) h = h .1
 inside-of Table s (reply.TextFragment o at n) h = tt
 inside-of Capabilities s (reply.TableFragment o at n) h = tt
-inside-of Table s (reply.TableFragment o at n) h = h
+inside-of Table s (reply.TableFragment o at n) h = h .1
 inside-of k s (reply.Refused n) h = tt
 
 pub means-of : (k : TextKind) (s : List ℕ) (r : ReplyRead) (x : FragmentRead) → ReplyMeans s r (readReply s) → x ≡ ofKind k r → FragmentMeans s x (fragmentOf k (readReply s))

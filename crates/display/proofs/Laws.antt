@@ -1,26 +1,36 @@
--- What a builder leaves when the output is large enough, that no fragment is too long, and a table that was written in a part of its buffer.
+-- What a builder leaves when the output is large enough, that no fragment is too long, a table that was written in a part of its buffer, and what becomes of the display.
 use mathlib.Core.Path.{_≡_, refl, sym, ap, ap₂, _∙_}
-use mathlib.Core.Bool.{Bool, true, false, cond, _&&_}
+use mathlib.Core.Bool.{Bool, true, false, cond, not, _&&_}
 use mathlib.Core.List.{List, [], _++_, append-nil}
 use Prim.Native.Nat.{ℕ, _+_, _-_, _≤_}
 use native.Mathlib.Omega.{arith}
 use lib.ListN.{length, take, drop, length-take, length-drop, drop-of-length-le}
 use lib.Seq.{take-all, take-length, drop-drop}
-use lib.Dec.{leb}
-use borrow.Author.Tests.{le-leb}
+use lib.Dec.{eqb, leb}
+use borrow.Author.Tests.{eqb-true, le-leb}
 use borrow.Rule.Slice.PartMut.{midOf, postOf, putMid, post-is}
-use Rattle.message_rules.specs.Answer.{wrongField}
+use Rattle.message_rules.specs.Answer.{done, wrongField}
 use Rattle.message_rules.specs.Limits.{outputRoom, mostFragment}
 use Rattle.message.specs.Output.{over, Builds}
 use Rattle.message.specs.declared.Built.{Built}
 use Rattle.message.specs.declared.Built.the-variants.{Done, Refused}
+use Rattle.codes.specs.Codes.{member}
+use Rattle.settings.specs.Settings.{withPresent, setAnswer, judgeSet, setCode}
+use Rattle.settings.proofs.Answers.{both}
+use Rattle.display_rules.specs.State.{withSettings}
+use Rattle.display_rules.specs.Turn.{accepted, refusal, noReply, setTurn}
 use Rattle.display_rules.specs.Fragments.{lesser, nextCursor, foundBytes}
 use Rattle.display_rules.specs.Table.{written}
 use Rattle.message_rules.specs.declared.TextKind.{TextKind}
+use Rattle.message_rules.specs.declared.TextKind.the-variants.{Capabilities, Table}
+use Rattle.display_rules.specs.declared.Display.{Display}
 use Rattle.display_rules.specs.declared.TextState.{TextState}
 use Rattle.display_rules.specs.declared.Found.the-variants.{Fragment}
 use Rattle.display_rules.proofs.Tests.{lesser-left, lesser-right}
+use Rattle.display.specs.Changes.{withTexts, capabilitiesAfter, tableAfter}
 use Rattle.display.specs.Send.{builtLength, Sent}
+use Rattle.display.specs.declared.changes.TextChange.{TextChange}
+use Rattle.display.specs.declared.changes.TextChange.the-variants.{Kept, Moved, Written}
 
 -- ---- builders
 
@@ -85,3 +95,24 @@ put-is at end p s ys h l f =
 -- the length of a part, from its start to its end
 pub part-length : (from n : ℕ) → from + n - from ≡ n
 part-length from n = omega arith
+
+-- ---- what becomes of the display
+
+-- the states of the two texts after a change, and all else as it was
+pub texts-after : (d : Display) (x : TextChange)
+    → _≡_ {A = Display} (record { settings = d .settings; capabilities = capabilitiesAfter (d .capabilities) x; table = tableAfter (d .table) x; size = d .size }) (withTexts d x)
+texts-after d Kept = refl
+texts-after d (Moved Capabilities c) = refl
+texts-after d (Moved Table c) = refl
+texts-after d (Written n) = refl
+
+-- a Set whose value is stored, and any other
+pub set-stored : (d : Display) (table : List ℕ) (c value : ℕ) → judgeSet (d .settings) c value .stored ≡ true
+    → setTurn d table c value ≡ accepted (withSettings d (withPresent (d .settings) c value)) table noReply
+unfolding setTurn setCode judgeSet
+set-stored d table c value e = rw (e, eqb-true (setAnswer (d .settings) c value) done (both (eqb (setAnswer (d .settings) c value) done) (not (member (d .settings .momentary) c)) e .0))
+
+pub set-kept : (d : Display) (table : List ℕ) (c value : ℕ) → judgeSet (d .settings) c value .stored ≡ false
+    → setTurn d table c value ≡ refusal (judgeSet (d .settings) c value .answer) d table noReply
+unfolding setTurn setCode judgeSet
+set-kept d table c value e = rw e

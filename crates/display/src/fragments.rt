@@ -1,7 +1,7 @@
 // The fragments of the two texts: which one a read finds, and its bytes.
 ghost use mathlib.Core.Path.{_≡_};
 ghost use lib.ListN.{length, take, drop};
-ghost use Rattle.display_rules.specs.State.{textState, withCursor};
+ghost use Rattle.display_rules.specs.State.{textState};
 ghost use Rattle.display_rules.specs.Fragments.{lesser, nextOffset, nextCursor, foundBytes};
 use display_rules::Display;
 use display_rules::Found;
@@ -86,24 +86,5 @@ pub(crate) fn text_state(kind: TextKind, d: Display) -> TextState
     match kind {
         TextKind::Capabilities => d.capabilities,
         TextKind::Table => d.table,
-    }
-}
-
-pub(crate) fn with_cursor(kind: TextKind, mut d: Display, c: FragmentCursor) -> Display
-    ensures { λ r. ⌜ r ≡ withCursor kind d c ⌝ }
-{
-    match kind {
-        TextKind::Capabilities => {
-            let mut t = d.capabilities;
-            t.cursor = c;
-            d.capabilities = t;
-            d
-        }
-        TextKind::Table => {
-            let mut t = d.table;
-            t.cursor = c;
-            d.table = t;
-            d
-        }
     }
 }

@@ -1,4 +1,5 @@
 // A display: its start, declaring, and one step for each message, proved equal to display_rules' definitions.
+pub mod changes;
 pub mod fragments;
 mod operation;
 mod send;
@@ -12,9 +13,12 @@ ghost use Rattle.message_rules.specs.Limits.{outputRoom};
 ghost use Rattle.display_rules.specs.Limits.{tableRoom};
 ghost use Rattle.display_rules.specs.State.{fresh, emptyDisplay, startAnswer, start, declare};
 ghost use Rattle.display_rules.specs.Step.{lentSizes, turnOf, outcome, step, left};
+ghost use Rattle.display.specs.Changes.{stepped};
+use changes::Pending;
+use changes::Reaction;
+use changes::TextChange;
 use display_rules::Changed;
 use display_rules::Display;
-use display_rules::Found;
 use display_rules::Stepped;
 use display_rules::limits::TABLE_ROOM;
 use message::RequestRead;
@@ -127,39 +131,49 @@ fn obey(
     request: RequestRead,
     message: &[u8],
     out: &mut [u8],
-) -> Stepped
+) -> Pending
     requires { ⌜ (outputRoom ≤ length (now out)) × (length (now table) ≡ tableRoom) × RequestInside (now message) request ⌝ }
-    ensures { λ r. ⌜ left r (now (table .exit)) (now (out .exit)) ≡ outcome (turnOf d (now (text .entry)) (now (table .entry)) (requestIn (now (message .entry)) request)) (now (out .entry)) ⌝ }
+    ensures { λ r. ⌜ left (stepped d r) (now (table .exit)) (now (out .exit)) ≡ outcome (turnOf d (now (text .entry)) (now (table .entry)) (requestIn (now (message .entry)) request)) (now (out .entry)) ⌝ }
 {
     match request {
-        RequestRead::Get(code) => operation::get(d, code, out),
+        RequestRead::Get(code) => Pending::Texts(operation::get(d, code, out)),
         RequestRead::Set(code, value) => operation::set(d, code, value),
-        RequestRead::Timing => operation::timing(d, out),
-        RequestRead::Save => operation::save(d),
-        RequestRead::Text(q) => operation::read(TextKind::Capabilities, d, text, table, q, out),
-        RequestRead::TableRead(code, q) => operation::table_read(d, text, table, code, q, out),
+        RequestRead::Timing => Pending::Texts(operation::timing(d, out)),
+        RequestRead::Save => Pending::Save,
+        RequestRead::Text(q) => {
+            Pending::Texts(operation::read(TextKind::Capabilities, d, text, table, q, out))
+        }
+        RequestRead::TableRead(code, q) => {
+            Pending::Texts(operation::table_read(d, text, table, code, q, out))
+        }
         RequestRead::TableWrite(code, at, position, n) => {
             let from = position.0;
             let data = &message[from..from + n];
-            table::write(d, table, code, at, data)
+            Pending::Texts(table::write(d, table, code, at, data))
         }
-        RequestRead::Refused(answer) => operation::refuse(d, answer, out),
+        RequestRead::Refused(answer) => Pending::Texts(operation::refuse(answer, out)),
     }
 }
 
-// One message to the display.
-pub fn step(d: Display, text: &[u8], table: &mut [u8], message: &[u8], out: &mut [u8]) -> Stepped
-    ensures { λ r. ⌜ left r (now (table .exit)) (now (out .exit)) ≡ step d (now (text .entry)) (now (table .entry)) (now (message .entry)) (now (out .entry)) ⌝ }
+// All of a step but the change of the display: the message is judged, the table written and the reply built.
+pub fn prepare(d: Display, text: &[u8], table: &mut [u8], message: &[u8], out: &mut [u8]) -> Pending
+    ensures { λ r. ⌜ left (stepped d r) (now (table .exit)) (now (out .exit)) ≡ step d (now (text .entry)) (now (table .entry)) (now (message .entry)) (now (out .entry)) ⌝ }
 {
     let kept = d.capabilities.length;
     if lent_well(kept, text.len(), table.len(), out.len()) {
         let request = read_request(TO_DISPLAY, message);
         return obey(d, text, table, request, message, out);
     }
-    Stepped {
-        display: d,
-        answer: answer::WRONG_SIZE,
+    Pending::Texts(Reaction {
         length: 0,
-        found: Found::Nothing,
-    }
+        answer: answer::WRONG_SIZE,
+        change: TextChange::Kept,
+    })
+}
+
+// One message to the display.
+pub fn step(d: Display, text: &[u8], table: &mut [u8], message: &[u8], out: &mut [u8]) -> Stepped
+    ensures { λ r. ⌜ left r (now (table .exit)) (now (out .exit)) ≡ step d (now (text .entry)) (now (table .entry)) (now (message .entry)) (now (out .entry)) ⌝ }
+{
+    changes::carry_out(d, prepare(d, text, table, message, out))
 }

@@ -7,10 +7,11 @@ ghost use Rattle.display_rules.specs.Limits.{tableRoom};
 ghost use Rattle.display_rules.specs.State.{unsent};
 ghost use Rattle.display_rules.specs.Table.{writeAnswer, lengthAfter, written, tableWriteTurn};
 ghost use Rattle.display_rules.specs.Step.{outcome, left};
+ghost use Rattle.display.specs.Changes.{finished};
+use crate::changes::Reaction;
+use crate::changes::TextChange;
 use display_rules::Display;
-use display_rules::Found;
 use display_rules::FragmentCursor;
-use display_rules::Stepped;
 use display_rules::TextState;
 use display_rules::limits::TABLE_ROOM;
 use message_rules::TABLE_CODE;
@@ -67,28 +68,24 @@ fn put(data: &[u8], at: usize, table: &mut [u8])
 }
 
 // A Table write.
-pub(crate) fn write(
-    mut d: Display,
-    table: &mut [u8],
-    code: u8,
-    at: TextOffset,
-    data: &[u8],
-) -> Stepped
+pub(crate) fn write(d: Display, table: &mut [u8], code: u8, at: TextOffset, data: &[u8]) -> Reaction
     requires { ⌜ length (now table) ≡ tableRoom ⌝ }
-    ensures { λ r. ⌜ ((out : List ℕ) → left r (now (table .exit)) out ≡ outcome (tableWriteTurn d (now (table .entry)) code (at .0) (now («data» .entry))) out) ⌝ }
+    ensures { λ r. ⌜ ((out : List ℕ) → left (finished d r) (now (table .exit)) out ≡ outcome (tableWriteTurn d (now (table .entry)) code (at .0) (now («data» .entry))) out) ⌝ }
 {
     let old = d.table.length;
     let answer = write_answer(code, old, at.0, data.len());
     if answer == answer::DONE {
         put(data, at.0 as usize, table);
         let length = length_after(old, at.0, data.len() as u16);
-        let after = unsent(length);
-        d.table = after;
+        return Reaction {
+            length: 0,
+            answer: answer,
+            change: TextChange::Written(length),
+        };
     }
-    Stepped {
-        display: d,
-        answer: answer,
+    Reaction {
         length: 0,
-        found: Found::Nothing,
+        answer: answer,
+        change: TextChange::Kept,
     }
 }

@@ -6,18 +6,21 @@ use message_rules::TextOffset;
 use settings::Settings;
 
 // The fragment of a text that was sent last (the papers' place of a text): where it starts, and its length.
+#[repr(C)]
 pub struct FragmentCursor {
     pub offset: TextOffset,
     pub length: u16,
 }
 
 // What a display keeps of one of its texts: the text's length, and its fragment cursor. The bytes are lent to each step.
+#[repr(C)]
 pub struct TextState {
     pub length: u16,
     pub cursor: FragmentCursor,
 }
 
 // A display. `size` is the fragment size. The settings, by far the largest part, stand first, where they are cheaper to copy.
+#[repr(C)]
 pub struct Display {
     pub settings: Settings,
     pub capabilities: TextState,
@@ -26,6 +29,7 @@ pub struct Display {
 }
 
 // What a start and declaring return: the display afterwards, and an answer number.
+#[repr(C)]
 pub struct Changed {
     pub display: Display,
     pub answer: u8,

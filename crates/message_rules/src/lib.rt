@@ -26,6 +26,7 @@ pub const TO_HOST: Address = Address {
 };
 
 // A text offset counts bytes of a whole text. No function takes it for a position.
+#[repr(C)]
 pub struct TextOffset(pub u16);
 
 // A position counts bytes of one slice: a message, a capabilities string, a profile (the papers' place). No function takes it for a text offset.

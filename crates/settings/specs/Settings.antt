@@ -11,6 +11,7 @@ use Rattle.settings.specs.declared.Settings.{Settings}
 use Rattle.settings.specs.declared.Declaration.{Declaration}
 use Rattle.settings.specs.declared.Change.{Change}
 use Rattle.settings.specs.declared.Feature.{Feature}
+use Rattle.settings.specs.declared.Judgement.{Judgement}
 
 -- "type (0 kept, 1 momentary)"
 abbrev pub momentaryType : ℕ
@@ -121,6 +122,10 @@ withPresent s c value = record {
   saved = s .saved;
   timing = s .timing;
 }
+
+-- "Momentary: accepted, nothing stored."
+unfoldable pub judgeSet : Settings → ℕ → ℕ → Judgement
+judgeSet s c value = record { answer = setAnswer s c value; stored = eqb (setAnswer s c value) done && not (member (s .momentary) c) }
 
 -- "Momentary: accepted, nothing stored. Else present is the value."
 unfoldable pub setCode : Settings → ℕ → ℕ → Change

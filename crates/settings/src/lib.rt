@@ -8,12 +8,15 @@ use message_rules::answer::DONE;
 use message_rules::answer::NOT_DECLARABLE;
 use message_rules::answer::VALUE_TOO_LARGE;
 ghost use mathlib.Core.Path.{_≡_};
-ghost use Rattle.settings.specs.Settings.{emptySettings, startingSettings, startWith, exceedsMaximum, accessRefused, declarationRefused, withDeclaration, declareCode, answerToSet, setCode, saveAll, typeNumber, getCode};
+ghost use lib.ListN.{getD};
+ghost use Rattle.codes.specs.Codes.{member};
+ghost use Rattle.settings.specs.Settings.{emptySettings, startingSettings, startWith, exceedsMaximum, accessRefused, declarationRefused, withDeclaration, declareCode, answerToSet, judgeSet, saveAll, typeNumber, getCode};
 
 // The type of a momentary code; a kept one is 0.
 pub const MOMENTARY: u8 = 1;
 
 // The fields of a Timing reply.
+#[repr(C)]
 pub struct Timing {
     pub status: u8,
     pub horizontal: u16,
@@ -21,6 +24,7 @@ pub struct Timing {
 }
 
 // What a device keeps for each code 0 to 255, and its timing.
+#[repr(C)]
 pub struct Settings {
     pub declared: [u64; 4],
     pub readable: [u64; 4],
@@ -34,6 +38,7 @@ pub struct Settings {
 }
 
 // What is said of a code when it is declared. The kind is the type: 0 (kept) or 1 (momentary).
+#[repr(C)]
 pub struct Declaration {
     pub code: u8,
     pub readable: bool,
@@ -48,6 +53,12 @@ pub struct Declaration {
 pub struct Change {
     pub settings: Settings,
     pub answer: u8,
+}
+
+// What a Set comes to: an answer number, and whether the value becomes the present one.
+pub struct Judgement {
+    pub answer: u8,
+    pub stored: bool,
 }
 
 // The fields of a Value reply. The kind is its type byte.
@@ -197,32 +208,45 @@ fn set_answer(declared: bool, code: u8, writable: bool, above: bool) -> u8
     CODE_NOT_ALLOWED
 }
 
-// A Set of the code to the value. The value is stored into the parameter itself, not into another local.
-pub fn set(mut s: Settings, code: u8, value: u16) -> Change
-    ensures { λ r. ⌜ r ≡ setCode s code value ⌝ }
+// Whether the value is above the maximum of a continuous code. The maxima are taken out only for such a code, so that no more is copied.
+fn above_maximum(s: Settings, code: u8, value: u16) -> bool
+    ensures { λ r. ⌜ r ≡ exceedsMaximum (member (s .continuous) code) (getD (s .maximum) code 0) value ⌝ }
 {
-    let i = code as usize;
-    let declared = codes::contains(s.declared, code);
-    let writable = codes::contains(s.writable, code);
-    let continuous = codes::contains(s.continuous, code);
-    let above = exceeds(continuous, s.maximum[i], value);
+    let continuous_codes = s.continuous;
+    if codes::contains(continuous_codes, code) {
+        let i = code as usize;
+        let maximum = s.maximum;
+        return maximum[i] < value;
+    }
+    false
+}
+
+// What a Set of the code to the value comes to. Whoever holds the settings stores the value where they are, so that they are not passed on and back.
+pub fn judge_set(s: Settings, code: u8, value: u16) -> Judgement
+    ensures { λ r. ⌜ r ≡ judgeSet s code value ⌝ }
+{
+    let declared_codes = s.declared;
+    let writable_codes = s.writable;
+    let momentary_codes = s.momentary;
+    let declared = codes::contains(declared_codes, code);
+    let writable = codes::contains(writable_codes, code);
+    let above = above_maximum(s, code, value);
     let answer = set_answer(declared, code, writable, above);
     if answer != DONE {
-        return Change {
+        return Judgement {
             answer: answer,
-            settings: s,
+            stored: false,
         };
     }
-    if codes::contains(s.momentary, code) {
-        return Change {
+    if codes::contains(momentary_codes, code) {
+        return Judgement {
             answer: answer,
-            settings: s,
+            stored: false,
         };
     }
-    s.present[i] = value;
-    Change {
+    Judgement {
         answer: answer,
-        settings: s,
+        stored: true,
     }
 }
 

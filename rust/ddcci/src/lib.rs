@@ -2,12 +2,14 @@
 //!
 //! Every call below goes to a function that is proved, for all inputs, to be safe, to end and to answer as document 01 says. None of them panics on any bytes.
 mod capabilities;
+mod display;
 mod message;
 mod raw;
 mod refusal;
 mod transfer;
 
 pub use capabilities::{read_into, Capabilities, Node, Nodes, RefusedAt, MOST_NODES};
+pub use display::{Declaration, Display, Step, Timing, TABLE_ROOM};
 pub use message::{checksum, Message, Reply, Request, MOST_FRAGMENT, MOST_WRITTEN, OUTPUT_ROOM};
 pub use refusal::Refusal;
 pub use transfer::{State, TextKind, Transfer};

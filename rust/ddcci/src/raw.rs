@@ -1,4 +1,5 @@
 //! The exported functions, as `include/ddcci.h` declares them. Nothing checks these declarations against the Rattle source, so they are few and plain.
+use crate::display::{Declaration, Timing};
 
 #[repr(C)]
 #[derive(Clone, Copy)]
@@ -128,4 +129,70 @@ extern "C" {
         reply: *const u8,
         reply_len: usize,
     ) -> Transfer;
+}
+
+#[repr(C)]
+#[derive(Clone, Copy, PartialEq, Eq)]
+pub struct Settings {
+    pub declared: [u64; 4],
+    pub readable: [u64; 4],
+    pub writable: [u64; 4],
+    pub momentary: [u64; 4],
+    pub continuous: [u64; 4],
+    pub maximum: [u16; 256],
+    pub present: [u16; 256],
+    pub saved: [u16; 256],
+    pub timing: Timing,
+}
+
+/// A text's length, and the offset and the length of the fragment that was sent last.
+#[repr(C)]
+#[derive(Clone, Copy, PartialEq, Eq)]
+pub struct TextState {
+    pub length: u16,
+    pub offset: u16,
+    pub sent: u16,
+}
+
+#[repr(C)]
+#[derive(Clone, Copy, PartialEq, Eq)]
+pub struct Display {
+    pub settings: Settings,
+    pub capabilities: TextState,
+    pub table: TextState,
+    pub size: u16,
+}
+
+#[repr(C)]
+#[derive(Clone, Copy)]
+pub struct DisplayChanged {
+    pub display: Display,
+    pub answer: u8,
+}
+
+#[repr(C)]
+#[derive(Clone, Copy)]
+pub struct DisplayStepped {
+    pub display: Display,
+    pub answer: u8,
+    pub length: usize,
+    pub offset: u16,
+    pub count: u16,
+    pub found: u8,
+}
+
+extern "C" {
+    pub fn ddcci_display_start(timing: Timing, text: *const u8, text_len: usize, size: u16) -> DisplayChanged;
+    pub fn ddcci_display_declare(display: Display, declaration: Declaration) -> DisplayChanged;
+    pub fn ddcci_display_step(
+        display: Display,
+        text: *const u8,
+        text_len: usize,
+        table: *mut u8,
+        table_len: usize,
+        message: *const u8,
+        message_len: usize,
+        out: *mut u8,
+        out_len: usize,
+    ) -> DisplayStepped;
 }

@@ -1,4 +1,5 @@
 -- `display::obey` meets its contract. Each arm of the match is the definition's case of what was read.
+use Rattle.display_rules.specs.Turn.{saveTurn}
 use Rattle.display.proofs.Laws.{part-length}
 use Prim.Native.Nat.{_-_}
 use native.Mathlib.Omega.{arith}
@@ -26,9 +27,6 @@ timing-requires c κs = search needs
 
 enum-told-2 : tie.Need-enum-told-2
 enum-told-2 c = search needs
-
-save-requires : tie.Need-save-requires
-save-requires c κs = search needs
 
 enum-known-request-3 : tie.Need-enum-known-request-3
 enum-known-request-3 c = search needs
@@ -82,7 +80,8 @@ returns-3 : tie.Need-returns-3
 returns-3 c = rw (c .before .before .before .before .enum-told .given .1) (c .before .before .timing .ensures _)
 
 returns-4 : tie.Need-returns-4
-returns-4 c = rw (c .before .enum-told2 .given .1) (c .save .ensures _ _)
+unfolding saveTurn
+returns-4 c = rw (c .enum-told2 .given .1)
 
 same-length-3 : tie.Need-same-length-3
 same-length-3 c = search needs
@@ -112,7 +111,9 @@ same-length-8 : tie.Need-same-length-8
 same-length-8 c = search needs
 
 returns-8 : tie.Need-returns-8
-returns-8 c = rw (c .before .before .before .before .before .request6 .given .1) (c .before .before .refuse .ensures (c .before .before .before .before .before .before .before .before .before .before .before .args .text .now) _)
+returns-8 c =
+    let a = c .before .before .before .before .before .before .before .before .before .before .before .args in
+    rw (c .before .before .before .before .before .request6 .given .1) (c .before .before .refuse .ensures (a .d) (a .text .now) _)
 
 pub obey-spec : {M : Type 1} → statement M
 obey-spec =
@@ -125,7 +126,6 @@ obey-spec =
     enum-told
     timing-requires
     enum-told-2
-    save-requires
     enum-known-request-3
     read-requires
     enum-known-request-4

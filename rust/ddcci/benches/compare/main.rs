@@ -1,6 +1,7 @@
 //! Paneknoll's proved functions beside the oracle's, in one run: `cargo bench`. Each line is what is measured, Paneknoll, the oracle, and the ratio of the two.
 mod capabilities;
 mod checksum;
+mod display;
 mod installed;
 mod measure;
 mod messages;
@@ -13,4 +14,5 @@ fn main() {
     capabilities::run();
     installed::run();
     transfers::run();
+    display::run();
 }

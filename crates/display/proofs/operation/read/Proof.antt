@@ -29,19 +29,16 @@ fragment-requires c κs =
     let t = c .before .before .before .before .text-state .result in
     (search needs, rw (c .before .handed-back .ensures, c .before .before .next-cursor .ensures, c .before .before .before .lesser .ensures) (fragment-fits (a .kind) (a .text .now) (a .table .now) (a .d .size) t (a .q .0)))
 
-with-cursor-requires : tie.Need-with-cursor-requires
-with-cursor-requires c κs = search needs
-
 same-length : tie.Need-same-length
 same-length c = search needs
 
 returns : tie.Need-returns
 unfolding readTurn
 returns c =
-    let a = c .before .before .before .before .before .before .before .before .before .before .before .before .args in
-    let f = c .before .before .before .before .before .before .next-cursor in
-    let e : f .result ≡ nextCursor (lesser (a .d .size) mostFragment) (textState (a .kind) (a .d)) (a .q .0) = rw (c .before .before .before .before .before .before .before .lesser .ensures, c .before .before .before .before .before .before .before .before .text-state .ensures) at (f .ensures) in
-    rw (← e, c .with-cursor .ensures, c .before .before .before .fragment .ensures .counted, c .before .before .before .fragment .ensures .leaves, c .before .before .before .before .before .handed-back .ensures)
+    let a = c .before .before .before .before .before .before .before .before .before .before .before .args in
+    let f = c .before .before .before .before .before .next-cursor in
+    let e : f .result ≡ nextCursor (lesser (a .d .size) mostFragment) (textState (a .kind) (a .d)) (a .q .0) = rw (c .before .before .before .before .before .before .lesser .ensures, c .before .before .before .before .before .before .before .text-state .ensures) at (f .ensures) in
+    rw (← e, c .before .before .fragment .ensures .counted, c .before .before .fragment .ensures .leaves, c .before .before .before .before .handed-back .ensures)
 
 pub read-spec : {M : Type 1} → statement M
 read-spec =
@@ -53,6 +50,5 @@ read-spec =
     next-cursor-requires
     handed-back-requires
     fragment-requires
-    with-cursor-requires
     same-length
     returns)

@@ -1,15 +1,25 @@
--- `display::operation::set` meets its contract. Setting is the settings'.
-use Rattle.display_rules.specs.Turn.{setTurn}
+-- `display::operation::set` meets its contract. Judging is the settings'; where they store, the answer is 0.
+use mathlib.Core.Path.{sym, ap, _∙_}
+use Rattle.settings.specs.declared.Judgement.{Judgement}
+use Rattle.display.proofs.Laws.{set-stored, set-kept}
 use borrow.Author.Needs.{needs}
 use Rattle.display.proofs.operation.set.Statement.{statement}
 use Rattle.display.proofs.operation.set.Tie as tie
 
-set-requires : tie.Need-set-requires
-set-requires c κs = search needs
+judge-set-requires : tie.Need-judge-set-requires
+judge-set-requires c κs = search needs
 
 returns : tie.Need-returns
-unfolding setTurn
-returns c = λ table out. rw (c .before .set .ensures)
+returns c =
+    let a = c .before .before .before .args in
+    let e = sym (ap (λ (j : Judgement). j .stored) (c .before .judge-set .ensures)) ∙ c .if1 .taken in
+    λ table out. rw (set-stored (a .d) table (a .code) (a .value) e)
+
+returns-2 : tie.Need-returns-2
+returns-2 c =
+    let a = c .before .before .before .args in
+    let e = sym (ap (λ (j : Judgement). j .stored) (c .before .judge-set .ensures)) ∙ c .if1 .left in
+    λ table out. rw (set-kept (a .d) table (a .code) (a .value) e, c .before .judge-set .ensures)
 
 pub set-spec : {M : Type 1} → statement M
-set-spec = tie.close (tie.spec set-requires returns)
+set-spec = tie.close (tie.spec judge-set-requires returns returns-2)

@@ -23,15 +23,12 @@ cast-length-after c = omega (arith, write-accepted _ _ _ _ (sym (c .before .befo
 length-after-requires : tie.Need-length-after-requires
 length-after-requires c κs = write-accepted _ _ _ _ (sym (c .before .before .before .before .before .before .write-answer .ensures) ∙ c .before .before .before .before .before .if1 .taken) .2
 
-unsent-requires : tie.Need-unsent-requires
-unsent-requires c κs = search needs
-
 same-length : tie.Need-same-length
 same-length c = search needs
 
 returns : tie.Need-returns
 unfolding tableWriteTurn
-returns c = λ out. rw (← c .before .before .before .before .before .before .before .before .write-answer .ensures, c .before .before .before .before .before .before .before .if1 .taken, c .unsent .ensures, c .before .length-after .ensures, c .before .before .before .before .put .ensures)
+returns c = λ out. rw (← c .before .before .before .before .before .before .before .write-answer .ensures, c .before .before .before .before .before .before .if1 .taken, c .length-after .ensures, c .before .before .before .put .ensures)
 
 returns-2 : tie.Need-returns-2
 unfolding tableWriteTurn
@@ -46,7 +43,6 @@ write-spec =
     put-requires
     cast-length-after
     length-after-requires
-    unsent-requires
     same-length
     returns
     returns-2)

@@ -1,0 +1,13 @@
+-- `display::changes::saved` meets its contract. Saving is the settings'.
+use borrow.Author.Needs.{needs}
+use Rattle.display.proofs.changes.saved.Statement.{statement}
+use Rattle.display.proofs.changes.saved.Tie as tie
+
+save-requires : tie.Need-save-requires
+save-requires c κs = search needs
+
+returns : tie.Need-returns
+returns c = rw (c .save .ensures)
+
+pub saved-spec : {M : Type 1} → statement M
+saved-spec = tie.close (tie.spec save-requires returns)

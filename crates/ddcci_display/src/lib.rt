@@ -23,15 +23,15 @@ pub const CAPABILITIES: u8 = 1;
 
 pub const TABLE: u8 = 2;
 
-// What a step returns: the display afterwards, the answer number, and the reply's length in the output; then the fragment that was sent, by its offset and length and the number of its text. What is not there is 0. The
-// numbers that are 0 together stand together.
+// What a step returns: the display afterwards, the answer number, and the reply's length in the output; then the fragment that was sent, by its offset, its length and the number of its text. What is not there is 0. The
+// numbers that are 0 together stand together, so that they are cleared as one; that keeps the display's copies of the cases apart, and fewer.
 #[repr(C)]
 pub struct DisplayStepped {
     pub display: Display,
     pub answer: u8,
     pub length: usize,
-    pub offset: u16,
-    pub count: u16,
+    pub offset: usize,
+    pub count: usize,
     pub text: u8,
 }
 
@@ -104,15 +104,17 @@ fn answered(d: Display, reaction: Reaction) -> DisplayStepped
     let change = reaction.change;
     let text = sent_text(change);
     let cursor = sent_cursor(change);
-    let offset = cursor.offset;
+    let at = cursor.offset;
+    let offset = at.0 as usize;
+    let count = cursor.length as usize;
     let stepped = changes::finish(d, reaction);
     let display = stepped.display;
     DisplayStepped {
         display: display,
         answer: stepped.answer,
         length: stepped.length,
-        offset: offset.0,
-        count: cursor.length,
+        offset: offset,
+        count: count,
         text: text,
     }
 }

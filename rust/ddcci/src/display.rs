@@ -2,6 +2,7 @@
 use crate::raw;
 use crate::refusal::Refusal;
 use crate::transfer::TextKind;
+use std::ops::Range;
 
 /// The bytes of a table's buffer.
 pub const TABLE_ROOM: usize = 1024;
@@ -29,14 +30,14 @@ pub struct Declaration {
 }
 
 /// What a step came to.
-#[derive(Debug, Clone, Copy, PartialEq, Eq)]
+#[derive(Debug, Clone, PartialEq, Eq)]
 pub struct Step {
     /// Done, or why the message was refused.
     pub answer: Result<(), Refusal>,
     /// The length of the reply at the start of the output; 0 where none is due.
     pub length: usize,
-    /// The fragment that was sent: of which text, where it starts there, and its length.
-    pub found: Option<(TextKind, u16, u16)>,
+    /// The fragment that was sent: of which text, and its place there.
+    pub found: Option<(TextKind, Range<usize>)>,
 }
 
 /// A display. Its capabilities string and its table are lent to each step.
@@ -88,9 +89,10 @@ impl Display {
             )
         };
         self.0 = r.display;
-        let found = match r.found {
-            1 => Some((TextKind::Capabilities, r.offset, r.count)),
-            2 => Some((TextKind::Table, r.offset, r.count)),
+        let sent = r.offset..r.offset + r.count;
+        let found = match r.text {
+            1 => Some((TextKind::Capabilities, sent)),
+            2 => Some((TextKind::Table, sent)),
             _ => None,
         };
         Step { answer: Refusal::check(r.answer), length: r.length, found }

@@ -1,4 +1,4 @@
-//! The exported functions, as `include/ddcci.h` declares them. Nothing checks these declarations against the Rattle source, so they are few and plain.
+//! The exported functions, as `include/ddcci.h` and `include/ddcci_display.h` declare them. Nothing checks these declarations against the Rattle source, so they are few and plain.
 use crate::display::{Declaration, Timing};
 
 #[repr(C)]
@@ -176,9 +176,9 @@ pub struct DisplayStepped {
     pub display: Display,
     pub answer: u8,
     pub length: usize,
-    pub offset: u16,
-    pub count: u16,
-    pub found: u8,
+    pub offset: usize,
+    pub count: usize,
+    pub text: u8,
 }
 
 extern "C" {

@@ -1,8 +1,8 @@
-//! The C header: an example program is compiled with it, linked with the static library and run.
+//! The C headers: an example program for each is compiled with it, linked with its static library and run.
 use std::path::Path;
 use std::process::Command;
 
-const WRITES: &str = "\
+const EXAMPLE_WRITES: &str = "\
 set brightness to 100: 51 84 03 10 00 64 CC
 answer 0: code 10 is 50 of 100
 cut by a byte: answer 4
@@ -12,15 +12,23 @@ the same fragment again: answer 10
 state 1 after 5 exchanges: (vcp(10 12))
 ";
 
-#[test]
-fn the_example_compiles_and_writes_what_the_papers_say() {
+const DISPLAY_WRITES: &str = "\
+again: answer 18
+get: answer 0, reply 6E 88 02 00 10 00 00 64 00 32 F2, text 0, 0 bytes from 0
+set to 100: answer 0, reply, text 0, 0 bytes from 0
+get: answer 0, reply 6E 88 02 00 10 00 00 64 00 64 A4, text 0, 0 bytes from 0
+text at 0: answer 0, reply 6E 88 E3 00 00 28 76 63 70 28 30, text 1, 5 bytes from 0
+text at 5: answer 0, reply 6E 88 E3 00 05 31 30 20 46 34 03, text 1, 5 bytes from 5
+";
+
+fn compiles_and_writes(source: &str, library: &str, writes: &str) {
     let root = Path::new(env!("CARGO_MANIFEST_DIR")).join("../..");
-    let program = Path::new(env!("CARGO_TARGET_TMPDIR")).join("example");
+    let program = Path::new(env!("CARGO_TARGET_TMPDIR")).join(source);
     let compiled = Command::new("cc")
         .args(["-std=c11", "-Wall", "-Wextra", "-Werror", "-O2", "-I"])
         .arg(root.join("include"))
-        .arg(root.join("c/example.c"))
-        .arg(root.join("target/staticlib/libddcci.a"))
+        .arg(root.join(format!("c/{source}.c")))
+        .arg(root.join(format!("target/staticlib/{library}")))
         .arg("-o")
         .arg(&program)
         .status()
@@ -28,5 +36,15 @@ fn the_example_compiles_and_writes_what_the_papers_say() {
     assert!(compiled.success());
     let output = Command::new(&program).output().expect("the example runs");
     assert!(output.status.success());
-    assert_eq!(String::from_utf8_lossy(&output.stdout), WRITES);
+    assert_eq!(String::from_utf8_lossy(&output.stdout), writes);
+}
+
+#[test]
+fn the_example_compiles_and_writes_what_the_papers_say() {
+    compiles_and_writes("example", "libddcci.a", EXAMPLE_WRITES);
+}
+
+#[test]
+fn the_display_compiles_and_answers_as_the_papers_say() {
+    compiles_and_writes("display", "libddcci_display.a", DISPLAY_WRITES);
 }

@@ -1,4 +1,4 @@
-//! A step of the display for each message, beside the oracle's by value and by `&mut`. A display by value is copied in, back and into its place.
+//! A step of the display for each message, beside the oracle's by value and by `&mut`. By value a display is copied in, back and into its place.
 use crate::measure::{line_of_three, three};
 use ddcci::{Declaration, Display, Request, Timing, OUTPUT_ROOM, TABLE_ROOM};
 use oracle::display as slow;
@@ -63,6 +63,7 @@ pub fn run() {
         ("Table write of 31", Request::TableWrite { code: 0xF4, offset: 0, data: &data }),
         ("Table read", Request::TableRead { code: 0xF4, offset: 0 }),
     ];
+    println!("{:<44} {:>13} {:>13}   ratio {:>12}", "", "Paneknoll", "by value", "by &mut");
     let (mut a, mut b, mut c) = (ours(&text), theirs(&text), theirs(&text));
     let (mut x, mut y, mut z) = (Lent::new(), Lent::new(), Lent::new());
     for (name, request) in &requests {

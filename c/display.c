@@ -1,0 +1,41 @@
+/* What a controller does with Paneknoll's display: start it, declare brightness, and answer messages.
+ *
+ *     cc -Iinclude c/display.c target/staticlib/libddcci_display.a -o display && ./display
+ */
+#include <stdio.h>
+#include <string.h>
+
+#include "ddcci_display.h"
+
+static const uint8_t text[] = "(vcp(10 F4))";
+static uint8_t table[DDCCI_DISPLAY_TABLE_ROOM];
+
+static ddcci_display answer(ddcci_display display, const char *what, const uint8_t *message, size_t length) {
+    uint8_t out[DDCCI_DISPLAY_OUTPUT_ROOM];
+    ddcci_display_stepped step = ddcci_display_step(display, text, strlen((const char *)text), table, sizeof table, message, length, out, sizeof out);
+    printf("%s: answer %u, reply", what, step.answer);
+    for (size_t i = 0; i < step.length; i++) {
+        printf(" %02X", out[i]);
+    }
+    printf(", text %u, %zu bytes from %zu\n", step.text, step.count, step.offset);
+    return step.display;
+}
+
+int main(void) {
+    const ddcci_display_timing timing = {2, 13340, 6000};
+    const ddcci_display_declaration brightness = {0x10, true, true, 0, true, 100, 50};
+    ddcci_display display = ddcci_display_start(timing, text, strlen((const char *)text), 5).display;
+    display = ddcci_display_declare(display, brightness).display;
+    printf("again: answer %u\n", ddcci_display_declare(display, brightness).answer);
+
+    const uint8_t get[] = {0x51, 0x82, 0x01, 0x10, 0xAC};
+    const uint8_t set[] = {0x51, 0x84, 0x03, 0x10, 0x00, 0x64, 0xCC};
+    const uint8_t read[] = {0x51, 0x83, 0xF3, 0x00, 0x00, 0x4F};
+    const uint8_t next[] = {0x51, 0x83, 0xF3, 0x00, 0x05, 0x4A};
+    display = answer(display, "get", get, sizeof get);
+    display = answer(display, "set to 100", set, sizeof set);
+    display = answer(display, "get", get, sizeof get);
+    display = answer(display, "text at 0", read, sizeof read);
+    display = answer(display, "text at 5", next, sizeof next);
+    return display.settings.present[0x10] == 100 ? 0 : 1;
+}

@@ -1,0 +1,98 @@
+//! The display beside the oracle's: the same answers, replies, tables and fragments over random histories of messages, whole and damaged.
+mod common;
+use common::rounds;
+use ddcci::{Declaration, Display, Request, TextKind, Timing, OUTPUT_ROOM, TABLE_ROOM};
+use oracle::display as slow;
+use oracle::line::Random;
+use oracle::settings as slow_settings;
+
+const TEXT: &[u8] = b"(prot(monitor)type(LCD)cmds(01 02 03 07 0C E2 E3 E7 F3)vcp(10 12 14(05 08) F4))";
+
+fn number<T>(r: Result<T, ddcci::Refusal>) -> u8 {
+    r.err().map_or(0, ddcci::Refusal::number)
+}
+
+/// Both displays, started and declared alike.
+fn started(r: &mut Random) -> (Display, slow::Display) {
+    let size = 1 + r.below(32);
+    let mut ours = Display::start(Timing { status: 2, horizontal: 13340, vertical: 6000 }, TEXT, size as u16).unwrap();
+    let (_, mut theirs) = slow::Display::start(slow::Timing { status: 2, horizontal: 13340, vertical: 6000 }, TEXT, size);
+    for _ in 0..60 {
+        let (code, kind) = (0xE0 + r.below(32) as u8, r.below(3) as u8);
+        let (readable, writable, continuous) = (r.below(4) > 0, r.below(4) > 0, r.below(2) > 0);
+        let (maximum, present) = (r.below(200) as u16, r.below(200) as u16);
+        let answer = number(ours.declare(Declaration { code, readable, writable, kind, continuous, maximum, present }));
+        assert_eq!(answer, theirs.declare(slow_settings::Declaration { code, readable, writable, kind, continuous, maximum, present }));
+    }
+    (ours, theirs)
+}
+
+/// A message to the display, now and then with a byte changed or missing.
+fn message(r: &mut Random, reached: u16) -> Vec<u8> {
+    let data: Vec<u8> = (0..r.below(32)).map(|_| r.below(256) as u8).collect();
+    let code = if r.below(4) > 0 { 0xF4 } else { r.below(256) as u8 };
+    let offset = if r.below(4) > 0 { reached } else { r.below(1100) as u16 };
+    let request = match r.below(9) {
+        0 => Request::Get { code: 0xE0 + r.below(32) as u8 },
+        1 | 2 => Request::Set { code: 0xE0 + r.below(32) as u8, value: r.below(220) as u16 },
+        3 => Request::Timing,
+        4 => Request::Save,
+        5 => Request::Text { offset },
+        6 => Request::TableRead { code, offset },
+        _ => Request::TableWrite { code, offset, data: &data },
+    };
+    let mut bytes = request.to_bytes().unwrap().to_vec();
+    let at = r.below(bytes.len());
+    match r.below(20) {
+        0 => bytes[at] ^= 1 << r.below(8),
+        1 => bytes.truncate(at),
+        _ => {}
+    }
+    bytes
+}
+
+#[test]
+fn random_histories() {
+    let mut r = Random::new(7);
+    for _ in 0..rounds(200) {
+        let (mut ours, mut theirs) = started(&mut r);
+        let (mut a, mut b) = ([0; TABLE_ROOM], [0; TABLE_ROOM]);
+        let (mut x, mut y) = ([0xAA; OUTPUT_ROOM], [0xAA; OUTPUT_ROOM]);
+        let mut reached = 0;
+        for _ in 0..200 {
+            let message = message(&mut r, reached);
+            let step = ours.step(TEXT, &mut a, &message, &mut x);
+            let (answer, length, fragment) = theirs.step_fragment(TEXT, &mut b, &message, &mut y);
+            assert_eq!((number(step.answer), step.length), (answer, length), "{message:02X?}");
+            let found = match &step.found {
+                None => &[][..],
+                Some((TextKind::Capabilities, place)) => &TEXT[place.clone()],
+                Some((TextKind::Table, place)) => &a[place.clone()],
+            };
+            assert_eq!(found, fragment, "{message:02X?}");
+            reached = step.found.map_or(0, |(_, place)| place.end as u16);
+            assert_eq!((x, a), (y, b), "{message:02X?}");
+        }
+    }
+}
+
+#[test]
+fn wrong_sizes_change_nothing() {
+    let (mut display, _) = started(&mut Random::new(1));
+    let before = display.clone();
+    let message = Request::TableWrite { code: 0xF4, offset: 0, data: &[1, 2, 3] }.to_bytes().unwrap();
+    for (text, table, out) in [(&TEXT[1..], 1024, 38), (TEXT, 1023, 38), (TEXT, 1025, 38), (TEXT, 1024, 37)] {
+        let (mut table, mut out) = (vec![0; table], vec![0; out]);
+        let step = display.step(text, &mut table, &message, &mut out);
+        assert_eq!((number(step.answer), step.length, step.found), (1, 0, None));
+        assert!(display == before && table.iter().chain(&out).all(|&byte| byte == 0));
+    }
+}
+
+#[test]
+fn a_refused_start_has_a_number() {
+    let start = |status, text: &[u8], size| number(Display::start(Timing { status, ..Timing::default() }, text, size));
+    assert_eq!(start(0x04, TEXT, 32), 18);
+    assert_eq!(start(0, &[b'a'; 4097], 32), 11);
+    assert_eq!((start(0, TEXT, 0), start(0, TEXT, 33), start(0, &[b'a'; 4096], 32)), (18, 18, 0));
+}

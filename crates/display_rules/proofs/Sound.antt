@@ -1,4 +1,4 @@
--- Every display that a start, declaring and steps have made is sound.
+-- Every display that a start, declaring, steps and loading profiles have made is sound.
 use mathlib.Core.Path.{_≡_, refl}
 use mathlib.Core.Logic.{inl, inr}
 use mathlib.Core.Bool.{Bool, true, false, cond, not, _||_, false≢true}
@@ -20,6 +20,7 @@ use Rattle.settings.specs.Entries as entries
 use Rattle.message_rules.specs.Message.{tableCode}
 use Rattle.settings.specs.Settings.{reservedBits, startWith}
 use Rattle.settings.proofs.Theorems.{start-is-sound, empty-is-sound, declare-keeps-sound, set-keeps-sound, save-keeps-sound}
+use Rattle.profile_rules.proofs.Theorems.{load-keeps-sound}
 use Rattle.settings.specs.declared.Settings.{Settings}
 use Rattle.settings.specs.declared.Timing.{Timing}
 use Rattle.message_rules.specs.Limits.{longestText}
@@ -29,7 +30,7 @@ use Rattle.display_rules.specs.Turn.{refusal, accepted, noReply, bytesOf
 use Rattle.display_rules.specs.Fragments.{fragmentSize, nextCursor, readTurn, tableReadTurn}
 use Rattle.display_rules.specs.Table.{writeAnswer, lengthAfter, tableWriteTurn}
 use Rattle.display_rules.specs.Step.{turnOf, lentWell, turn, step}
-use Rattle.display_rules.specs.Statements.{Made, started, declared, stepped, Sound, MadeIsSound}
+use Rattle.display_rules.specs.Statements.{Made, started, declared, stepped, loaded, Sound, MadeIsSound}
 use Rattle.message_rules.specs.declared.TextKind.{TextKind}
 use Rattle.message_rules.specs.declared.TextKind.the-variants.{Capabilities, Table}
 use Rattle.display_rules.specs.declared.Display.{Display}
@@ -169,6 +170,7 @@ unfolding declare
 sound (started t n p) = start-sound t n p
 sound (declared {d} m e h) = with-settings d _ (sound m) (declare-keeps-sound (d .settings) e h (sound m .settings))
 sound (stepped {d} m lent table message out b) = step-sound d lent table message out b (sound m)
+sound (loaded {d} m bytes) = with-settings d _ (sound m) (load-keeps-sound (d .settings) bytes (sound m .settings))
 
 pub made-is-sound : MadeIsSound step
 made-is-sound d m = sound m

@@ -13,13 +13,14 @@ use Rattle.message_rules.specs.Limits.{mostFragment}
 use Rattle.message_rules.specs.Message.{Request, get, set, timing, save, text, tableRead, tableWrite, requests, encode, decode, toDisplay}
 use Rattle.message_rules.specs.Read.{Read, ok, refused}
 use Rattle.message.specs.Output.{over}
+use Rattle.profile_rules.specs.Profile.{loadProfile}
 use Rattle.settings.specs.Entries as entries
 use Rattle.message_rules.specs.Message.{tableCode}
 use Rattle.settings.specs.declared.Declaration.{Declaration}
 use Rattle.settings.specs.declared.Timing.{Timing}
 use Rattle.message_rules.specs.Limits.{longestText}
 use Rattle.display_rules.specs.Limits.{tableRoom}
-use Rattle.display_rules.specs.State.{startingCursor, cursorOf, start, declare}
+use Rattle.display_rules.specs.State.{startingCursor, cursorOf, withSettings, start, declare}
 use Rattle.display_rules.specs.Turn.{bytesOf, timingOf}
 use Rattle.display_rules.specs.Fragments.{lesser, fragmentAt, foundBytes, fragmentReply}
 use Rattle.display_rules.specs.Table.{written}
@@ -68,11 +69,12 @@ RefusalsChangeNothing step = (d : Display) (lent table message out : List ℕ) �
 
 -- ---- displays that calls have made
 
--- by a start, refused or not, then declaring and steps, whatever was lent and whatever bytes the messages were
+-- by a start, refused or not, then declaring, steps and loading a profile, in any order, whatever was lent and whatever bytes the messages and the profiles were
 pub data Made (step : StepRule) : Display → Type 0 where
   started : (t : Timing) (n p : ℕ) → Made step (start t n p .display)
   declared : {d : Display} → Made step d → (e : Declaration) → e .code < allCodes → Made step (declare d e .display)
   stepped : {d : Display} → Made step d → (lent table message out : List ℕ) → Bytes message → Made step (step d lent table message out .display)
+  loaded : {d : Display} → Made step d → (bytes : List ℕ) → Made step (withSettings d (loadProfile (d .settings) bytes .settings))
 
 -- a text of which nothing was sent, or the last fragment had "the next min(piece size, bytes left) bytes"
 abbrev pub Placed : (size : ℕ) → TextState → Type 0

@@ -1,0 +1,263 @@
+// The gate: it reads a text of a display over the line, fragment by fragment, and asks again where the line spoils an exchange.
+use crate::line;
+use crate::line::Fate;
+use crate::say;
+use crate::site;
+use crate::site::Site;
+use display_rules::limits::TABLE_ROOM;
+use message_rules::TextKind;
+use message_rules::answer;
+use message_rules::limits::OUTPUT_ROOM;
+use show::part::front;
+use transfer_rules::Received;
+use transfer_rules::State;
+use transfer_rules::Transfer;
+
+// How many exchanges a transfer may take.
+const BUDGET: usize = 1500;
+
+// How many exchanges are shown in full.
+const SHOWN: u16 = 10;
+
+// What became of the exchanges.
+pub(crate) struct Tally {
+    accepted: u64,
+    lost: u64,
+    cut: u64,
+    flipped: u64,
+    repeated: u64,
+}
+
+// A transfer under way.
+pub(crate) struct Reading {
+    pub(crate) site: Site,
+    pub(crate) transfer: Transfer,
+    tally: Tally,
+    shown: u16,
+}
+
+// The site after an exchange, and how many bytes came.
+struct Arrived {
+    site: Site,
+    came: usize,
+}
+
+fn tallied(mut t: Tally, fate: Fate, answer: u8) -> Tally {
+    if answer == answer::DONE {
+        t.accepted = site::one_more(t.accepted);
+        return t;
+    }
+    match fate {
+        Fate::Good => t,
+        Fate::RequestLost => {
+            t.lost = site::one_more(t.lost);
+            t
+        }
+        Fate::ReplyLost => {
+            t.lost = site::one_more(t.lost);
+            t
+        }
+        Fate::Cut => {
+            t.cut = site::one_more(t.cut);
+            t
+        }
+        Fate::Flipped => {
+            t.flipped = site::one_more(t.flipped);
+            t
+        }
+        Fate::Repeated => {
+            t.repeated = site::one_more(t.repeated);
+            t
+        }
+    }
+}
+
+// The request goes over the line to the display, and what comes back stands on the wire. A request that is lost reaches the display as no bytes, which change nothing.
+fn turn(
+    s: Site,
+    transfer: Transfer,
+    fate: Fate,
+    text: &[u8],
+    table: &mut [u8],
+    wire: &mut [u8],
+) -> Arrived {
+    let mut request = [0u8; OUTPUT_ROOM];
+    let mut reply = [0u8; OUTPUT_ROOM];
+    let asked = transfer::request(transfer, &mut request);
+    let message = front(&request, line::heard(fate, asked.len));
+    let before = s.display;
+    let stepped = display::step(before, text, table, message, &mut reply);
+    let line = s.line;
+    let came = line::carry(line, fate, front(&reply, stepped.length), wire);
+    let mut after = s;
+    let display = stepped.display;
+    let next = line::after(line, came);
+    after.display = display;
+    after.line = next;
+    Arrived {
+        site: after,
+        came: came,
+    }
+}
+
+// How many bytes an exchange joined to the text.
+fn joined(before: Transfer, after: Transfer) -> u64 {
+    std::num::wrapping_sub_u64(after.reached.0 as u64, before.reached.0 as u64)
+}
+
+// An exchange in full, where it is among those that are shown.
+fn trace(shown: u16, t: Transfer, fate: Fate, came: usize, r: Received) {
+    if shown <= t.count {
+        return;
+    }
+    let after = r.transfer;
+    say::number(t.count as u64 + 1, 7);
+    say::number(t.reached.0 as u64, 8);
+    say::text(b"   ");
+    line::name(fate);
+    say::number(came as u64, 2);
+    say::number(joined(t, after), 9);
+    say::answered(b"   ", r.answer);
+}
+
+// Asking, the display's turn, and receiving what came.
+fn exchange(
+    r: Reading,
+    text: &[u8],
+    table: &mut [u8],
+    buffer: &mut [u8],
+    wire: &mut [u8],
+) -> Reading {
+    let site = r.site;
+    let transfer = r.transfer;
+    let tally = r.tally;
+    let fate = line::draw(site.line.seed);
+    let arrived = turn(site, transfer, fate, text, table, wire);
+    let received = transfer::receive(transfer, buffer, front(wire, arrived.came));
+    trace(r.shown, transfer, fate, arrived.came, received);
+    let next = arrived.site;
+    let after = received.transfer;
+    Reading {
+        site: next,
+        transfer: after,
+        tally: tallied(tally, fate, received.answer),
+        shown: r.shown,
+    }
+}
+
+fn is_running(t: Transfer) -> bool {
+    let state = t.state;
+    match state {
+        State::Running => true,
+        State::Done => false,
+        State::Exhausted => false,
+        State::Overflowed => false,
+    }
+}
+
+fn is_done(t: Transfer) -> bool {
+    let state = t.state;
+    match state {
+        State::Running => false,
+        State::Done => true,
+        State::Exhausted => false,
+        State::Overflowed => false,
+    }
+}
+
+fn exchanges(
+    first: Reading,
+    text: &[u8],
+    table: &mut [u8],
+    buffer: &mut [u8],
+    wire: &mut [u8],
+) -> Reading {
+    let mut r = first;
+    let mut left = BUDGET;
+    while left > 0 {
+        let next = exchange(r, text, table, buffer, wire);
+        r = next;
+        let transfer = next.transfer;
+        if !is_running(transfer) {
+            return r;
+        }
+        left -= 1;
+    }
+    r
+}
+
+// A whole transfer.
+fn run(
+    kind: TextKind,
+    s: Site,
+    shown: u16,
+    text: &[u8],
+    table: &mut [u8],
+    buffer: &mut [u8],
+) -> Reading {
+    let mut wire = [0u8; OUTPUT_ROOM];
+    let begun = transfer::begin(kind, buffer, BUDGET);
+    let transfer = begun.transfer;
+    let tally = Tally {
+        accepted: 0,
+        lost: 0,
+        cut: 0,
+        flipped: 0,
+        repeated: 0,
+    };
+    let first = Reading {
+        site: s,
+        transfer: transfer,
+        tally: tally,
+        shown: shown,
+    };
+    exchanges(first, text, table, buffer, &mut wire)
+}
+
+// How the transfer went.
+fn report(t: Transfer, tally: Tally) {
+    say::counted(b"    ", t.count as u64, b" exchanges: ");
+    say::counted(
+        b"",
+        tally.accepted,
+        b" accepted, the last one the empty end; ",
+    );
+    say::counted(b"", tally.lost, b" lost, ");
+    say::counted(b"", tally.cut, b" cut, ");
+    say::counted(b"", tally.flipped, b" flipped, ");
+    say::counted(b"", tally.repeated, b" repeated\n");
+}
+
+// What was read should be these bytes.
+fn judged(r: Reading, read: &[u8], wanted: &[u8]) -> Site {
+    let t = r.transfer;
+    let tally = r.tally;
+    let after = r.site;
+    report(t, tally);
+    let same = check::same(wanted, front(read, t.reached.0 as usize));
+    say::counted(b"    ", t.reached.0 as u64, b" bytes read; ");
+    say::compared(b"with what was written: ", same);
+    site::also(site::also(after, same), is_done(t))
+}
+
+// A transfer of a text that should come to these bytes.
+pub(crate) fn read(
+    kind: TextKind,
+    s: Site,
+    shown: u16,
+    text: &[u8],
+    table: &mut [u8],
+    wanted: &[u8],
+) -> Site {
+    let mut buffer = [0u8; TABLE_ROOM];
+    let r = run(kind, s, shown, text, table, &mut buffer);
+    judged(r, &buffer, wanted)
+}
+
+pub(crate) fn read_list(number: u64, s: Site, text: &[u8], list: &[u8], table: &mut [u8]) -> Site {
+    if number == 1 {
+        say::text(b"    no. asks at   the line        came   joined   answer\n");
+        return read(TextKind::Table, s, SHOWN, text, table, list);
+    }
+    read(TextKind::Table, s, 0, text, table, list)
+}

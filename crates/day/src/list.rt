@@ -1,0 +1,40 @@
+// The call list: 85 records of a token and a household.
+
+// The bytes of a record: its length (10), its kind (32), token and household, the low byte first.
+const RECORD: usize = 12;
+
+const RECORDS: usize = 85;
+
+pub(crate) const LIST_SIZE: usize = 1020;
+
+// The tokens rise by one, the households come in a mixed order, each once.
+const FIRST_TOKEN: usize = 101;
+
+const FIRST_HOUSEHOLD: usize = 2000;
+
+const HOUSEHOLD_STEP: usize = 31;
+
+fn byte_of(record: usize, field: usize) -> u8 {
+    let r = record % RECORDS;
+    let token = FIRST_TOKEN + r;
+    let household = FIRST_HOUSEHOLD + r * HOUSEHOLD_STEP % RECORDS;
+    match field {
+        0 => 10,
+        2 => 32,
+        4 => (token % 256) as u8,
+        5 => (token / 256 % 256) as u8,
+        8 => (household % 256) as u8,
+        9 => (household / 256 % 256) as u8,
+        _ => 0,
+    }
+}
+
+pub(crate) fn call_list() -> [u8; LIST_SIZE] {
+    let mut list = [0u8; LIST_SIZE];
+    let mut i: usize = 0;
+    while i < LIST_SIZE {
+        list[i] = byte_of(i / RECORD, i % RECORD);
+        i += 1;
+    }
+    list
+}

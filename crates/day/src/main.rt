@@ -1,0 +1,107 @@
+// A day at the water point, in one process: two displays, each at the end of its own bad line, from the tent's first message to dusk.
+mod dusk;
+mod gate;
+mod line;
+mod list;
+mod say;
+mod site;
+mod tent;
+mod volunteer;
+
+use display_rules::limits::TABLE_ROOM;
+use site::Site;
+
+// The two displays.
+struct Pair {
+    one: Site,
+    two: Site,
+}
+
+// What is done with each display in turn.
+enum Task {
+    WriteList,
+    Settings,
+    Gate,
+    Capabilities,
+    Dusk,
+}
+
+// The time of day, and what is done.
+fn heading(task: Task) {
+    match task {
+        Task::WriteList => say::text(
+            b"05:10  the tent writes the call list: 85 records, at most 31 bytes a message\n",
+        ),
+        Task::Settings => say::text(
+            b"05:30  the tent sets brightness (at most 100) and input (15 is DisplayPort, 17 is HDMI)\n",
+        ),
+        Task::Gate => say::text(
+            b"06:00  the gates read the list back over long cables (offsets and sizes in bytes)\n",
+        ),
+        Task::Capabilities => say::text(
+            b"12:00  a volunteer reads the capabilities strings over the same cables\n",
+        ),
+        Task::Dusk => say::text(b"18:30  dusk: the settings are saved and the list is cleared\n"),
+    }
+}
+
+fn perform(task: Task, number: u64, s: Site, text: &[u8], list: &[u8], table: &mut [u8]) -> Site {
+    say::display(number);
+    match task {
+        Task::WriteList => tent::write_list(s, text, list, table),
+        Task::Settings => tent::settings(s, text, table),
+        Task::Gate => gate::read_list(number, s, text, list, table),
+        Task::Capabilities => volunteer::read_capabilities(number, s, text, table),
+        Task::Dusk => dusk::close(s, text, table),
+    }
+}
+
+fn both(task: Task, p: Pair, text: &[u8], list: &[u8], one: &mut [u8], two: &mut [u8]) -> Pair {
+    heading(task);
+    let first = p.one;
+    let second = p.two;
+    let a = perform(task, 1, first, text, list, one);
+    let b = perform(task, 2, second, text, list, two);
+    Pair { one: a, two: b }
+}
+
+fn start(text: &[u8]) -> Pair {
+    say::text(b"05:00  the tent starts two displays\n");
+    let one = tent::start(1, text, 32, 26302);
+    let two = tent::start(2, text, 7, 20979);
+    Pair { one: one, two: two }
+}
+
+// The day so far: each part of it begins with the one before.
+fn morning(text: &[u8], list: &[u8], one: &mut [u8], two: &mut [u8]) -> Pair {
+    let written = both(Task::WriteList, start(text), text, list, one, two);
+    both(Task::Settings, written, text, list, one, two)
+}
+
+fn noon(text: &[u8], list: &[u8], one: &mut [u8], two: &mut [u8]) -> Pair {
+    let set = morning(text, list, one, two);
+    both(Task::Gate, set, text, list, one, two)
+}
+
+fn afternoon(text: &[u8], list: &[u8], one: &mut [u8], two: &mut [u8]) -> Pair {
+    let read = noon(text, list, one, two);
+    both(Task::Capabilities, read, text, list, one, two)
+}
+
+fn day(text: &[u8], list: &[u8], one: &mut [u8], two: &mut [u8]) -> Pair {
+    let read = afternoon(text, list, one, two);
+    both(Task::Dusk, read, text, list, one, two)
+}
+
+fn main() {
+    let list = list::call_list();
+    let mut one = [0u8; TABLE_ROOM];
+    let mut two = [0u8; TABLE_ROOM];
+    let end = day(
+        b"(prot(monitor)vcp(01 10 12 60(0F 11)F4)mccs_ver(2.2))",
+        &list,
+        &mut one,
+        &mut two,
+    );
+    say::verdict(end.one.good, end.two.good);
+}

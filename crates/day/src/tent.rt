@@ -1,0 +1,235 @@
+// The tent: it starts the displays, declares their codes, writes the call list, and sets brightness and input.
+use crate::line::Line;
+use crate::list::LIST_SIZE;
+use crate::say;
+use crate::site;
+use crate::site::Site;
+use message::ReplyRead;
+use message::reply::read_display_reply;
+use message::request;
+use message_rules::TABLE_CODE;
+use message_rules::TO_DISPLAY;
+use message_rules::TextOffset;
+use message_rules::answer;
+use message_rules::limits::MOST_WRITTEN;
+use message_rules::limits::OUTPUT_ROOM;
+use settings::Declaration;
+use settings::Timing;
+use show::part::behind;
+use show::part::front;
+
+pub(crate) const BRIGHTNESS: u8 = 0x10;
+
+const CONTRAST: u8 = 0x12;
+
+const INPUT: u8 = 0x60;
+
+// A momentary code: it acts once and keeps no value.
+const DEGAUSS: u8 = 0x01;
+
+// The brightest value.
+const FULL: u16 = 100;
+
+// The messages that carry the list.
+const WRITES: usize = (LIST_SIZE + MOST_WRITTEN - 1) / MOST_WRITTEN;
+
+// ---- start
+
+// Whether a value is kept decides whether it can be read.
+fn code(code: u8, kind: u8, continuous: bool, maximum: u16, present: u16) -> Declaration {
+    Declaration {
+        code: code,
+        readable: kind == 0,
+        writable: true,
+        kind: kind,
+        continuous: continuous,
+        maximum: maximum,
+        present: present,
+    }
+}
+
+fn declare(mut s: Site, d: Declaration, wanted: u8) -> Site {
+    let before = s.display;
+    let declared = display::declare(before, d);
+    let after = declared.display;
+    s.display = after;
+    s.answer = declared.answer;
+    site::also(s, declared.answer == wanted)
+}
+
+fn declare_all(s: Site) -> Site {
+    let a = declare(s, code(BRIGHTNESS, 0, true, FULL, 80), answer::DONE);
+    let b = declare(a, code(CONTRAST, 0, true, FULL, 50), answer::DONE);
+    let c = declare(b, code(INPUT, 0, false, 0, 0x11), answer::DONE);
+    let d = declare(c, code(DEGAUSS, 1, false, 0, 0), answer::DONE);
+    say::answered(
+        b"    brightness (10), contrast (12), input (60), degauss (01): ",
+        d.answer,
+    );
+    let e = declare(d, code(TABLE_CODE, 0, false, 0, 0), answer::NOT_DECLARABLE);
+    say::answered(b"    code F4, which is the call list's: ", e.answer);
+    e
+}
+
+// A display at the end of a line, which goes by this seed.
+pub(crate) fn start(number: u64, text: &[u8], size: u16, seed: u64) -> Site {
+    let timing = Timing {
+        status: 2,
+        horizontal: 13340,
+        vertical: 6000,
+    };
+    let started = display::start(timing, text, size);
+    say::counted(b"  display ", number, b", which sends fragments of ");
+    say::counted(b"", size as u64, b" bytes: ");
+    say::answered(b"", started.answer);
+    let fresh = started.display;
+    let line = Line {
+        seed: seed,
+        kept: 0,
+    };
+    declare_all(Site {
+        display: fresh,
+        line: line,
+        answer: started.answer,
+        sent: 0,
+        good: started.answer == answer::DONE,
+    })
+}
+
+// ---- the call list
+
+// A Table write of these bytes.
+pub(crate) fn write(s: Site, text: &[u8], table: &mut [u8], at: u16, data: &[u8]) -> Site {
+    let mut m = [0u8; OUTPUT_ROOM];
+    let built = request::build_table_write(TO_DISPLAY, TABLE_CODE, TextOffset(at), data, &mut m);
+    site::send(
+        s,
+        text,
+        table,
+        front(&m, site::length_of(built)),
+        answer::DONE,
+    )
+}
+
+// Write number k. Every third one arrives twice.
+fn write_part(s: Site, text: &[u8], list: &[u8], table: &mut [u8], k: usize) -> Site {
+    let at = k % WRITES * MOST_WRITTEN;
+    let data = front(behind(list, at), MOST_WRITTEN);
+    let once = write(s, text, table, at as u16, data);
+    if k % 3 == 2 {
+        return write(once, text, table, at as u16, data);
+    }
+    once
+}
+
+fn write_parts(first: Site, text: &[u8], list: &[u8], table: &mut [u8]) -> Site {
+    let mut s = first;
+    let mut k: usize = 0;
+    while k < WRITES {
+        let next = write_part(s, text, list, table, k);
+        s = next;
+        k += 1;
+    }
+    s
+}
+
+// What the writes came to.
+fn written(s: Site, messages: u64, list: &[u8], table: &[u8]) -> Site {
+    say::counted(
+        b"    ",
+        WRITES as u64,
+        b" writes, every third delivered twice: ",
+    );
+    say::counted(b"", messages, b" messages\n");
+    let stored = site::stored(s);
+    say::counted(b"    the display holds ", stored as u64, b" bytes; ");
+    let same = check::same(list, front(table, stored));
+    say::compared(b"with the tent's list: ", same);
+    site::also(s, same)
+}
+
+pub(crate) fn write_list(s: Site, text: &[u8], list: &[u8], table: &mut [u8]) -> Site {
+    let after = write_parts(s, text, list, table);
+    let messages = std::num::wrapping_sub_u64(after.sent, s.sent);
+    written(after, messages, list, table)
+}
+
+// ---- settings
+
+pub(crate) fn set(
+    s: Site,
+    text: &[u8],
+    table: &mut [u8],
+    code: u8,
+    value: u16,
+    wanted: u8,
+) -> Site {
+    let mut m = [0u8; OUTPUT_ROOM];
+    let built = request::build_set(TO_DISPLAY, code, value, &mut m);
+    let after = site::send(s, text, table, front(&m, site::length_of(built)), wanted);
+    say::number(value as u64, 3);
+    say::answered(b":  ", after.answer);
+    after
+}
+
+// The present value that a reply to a Get carries, or 0.
+fn value_of(reply: &[u8]) -> u16 {
+    match read_display_reply(reply) {
+        ReplyRead::Value(_, _, _, _, present) => present,
+        ReplyRead::Timing(_, _, _) => 0,
+        ReplyRead::TextFragment(_, _, _) => 0,
+        ReplyRead::TableFragment(_, _, _) => 0,
+        ReplyRead::Refused(_) => 0,
+    }
+}
+
+// A Get, whose value should be the one wanted.
+pub(crate) fn get(s: Site, text: &[u8], table: &mut [u8], code: u8, wanted: u16) -> Site {
+    let mut m = [0u8; OUTPUT_ROOM];
+    let mut out = [0u8; OUTPUT_ROOM];
+    let built = request::build_get(TO_DISPLAY, code, &mut m);
+    let message = front(&m, site::length_of(built));
+    let after = site::ask(s, text, table, message, &mut out, answer::DONE);
+    let value = value_of(&out);
+    say::number(value as u64, 3);
+    site::also(after, value == wanted)
+}
+
+// Brightness, with a value that is refused.
+fn set_brightness(s: Site, text: &[u8], table: &mut [u8]) -> Site {
+    say::text(b"    Set brightness  ");
+    let a = set(s, text, table, BRIGHTNESS, 70, answer::DONE);
+    say::text(b"    Set brightness  ");
+    set(
+        a,
+        text,
+        table,
+        BRIGHTNESS,
+        FULL + 1,
+        answer::VALUE_TOO_LARGE,
+    )
+}
+
+// Input, and the momentary code.
+fn set_input(s: Site, text: &[u8], table: &mut [u8]) -> Site {
+    say::text(b"    Set input       ");
+    let a = set(s, text, table, INPUT, 15, answer::DONE);
+    say::text(b"    Set degauss     ");
+    set(a, text, table, DEGAUSS, 1, answer::DONE)
+}
+
+// What the display then has.
+fn get_both(s: Site, text: &[u8], table: &mut [u8]) -> Site {
+    say::text(b"    Get brightness  ");
+    let a = get(s, text, table, BRIGHTNESS, 70);
+    say::text(b", input ");
+    let b = get(a, text, table, INPUT, 15);
+    say::text(b"\n");
+    b
+}
+
+pub(crate) fn settings(s: Site, text: &[u8], table: &mut [u8]) -> Site {
+    let a = set_brightness(s, text, table);
+    let b = set_input(a, text, table);
+    get_both(b, text, table)
+}

@@ -1,0 +1,55 @@
+-- `show::tree::levels` is safe and ends: at most eight levels are counted.
+use Prim.Native.Nat.{_-_, _≤_}
+use Rattle.capabilities_rules.specs.Limits.{deepest}
+use borrow.Author.Needs.{needs}
+use Rattle.show.proofs.tree.levels.Statement.{statement}
+use Rattle.show.proofs.tree.levels.Tie as tie
+
+abbrev Inv-loop : tie.InvT-loop
+Inv-loop parents node at₀ count₀ at count = count ≤ deepest
+
+abbrev μ-loop : tie.MeasureT-loop
+μ-loop parents node at₀ count₀ at count = deepest - count
+
+loop-holds : tie.Need-loop-holds Inv-loop μ-loop
+loop-holds c = search needs
+
+mul-wide : tie.Need-mul-wide Inv-loop μ-loop
+mul-wide c = search needs
+
+shared-slice-read-wide : tie.Need-shared-slice-read-wide Inv-loop μ-loop
+shared-slice-read-wide c = search needs
+
+wide-requires : tie.Need-wide-requires Inv-loop μ-loop
+wide-requires c κs = search needs
+
+add-count : tie.Need-add-count Inv-loop μ-loop
+add-count c = search needs
+
+loop-less : tie.Need-loop-less Inv-loop μ-loop
+loop-less c = search needs
+
+loop-again : tie.Need-loop-again Inv-loop μ-loop
+loop-again c = search needs
+
+returns : tie.Need-returns Inv-loop μ-loop
+returns c = search needs
+
+returns-2 : tie.Need-returns-2 Inv-loop μ-loop
+returns-2 c = search needs
+
+pub levels-spec : {M : Type 1} → statement M
+levels-spec =
+    tie.close
+    (tie.spec
+    Inv-loop
+    μ-loop
+    loop-holds
+    mul-wide
+    shared-slice-read-wide
+    wide-requires
+    add-count
+    loop-less
+    loop-again
+    returns
+    returns-2)

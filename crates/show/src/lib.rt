@@ -1,0 +1,46 @@
+// What the programs write for people: texts, numbers in columns, answer numbers with their meaning, and the tree of a capabilities string.
+// The first parameter is where to: standard output or standard error. No contract can speak of what is written; these functions are proved safe and ending.
+pub mod answer;
+pub mod part;
+pub mod tree;
+
+pub fn text(to: i32, s: &[u8]) {
+    io::write_all(to, s);
+}
+
+// A number, behind spaces up to the width of its column, at most 8.
+pub fn number(to: i32, n: u64, width: usize) {
+    let mut digits = [0u8; 20];
+    let k = io::decimal(n, &mut digits);
+    if k < width {
+        text(to, part::front(b"        ", width - k));
+    }
+    text(to, &digits[..k]);
+}
+
+// A number between two texts.
+pub fn counted(to: i32, before: &[u8], n: u64, after: &[u8]) {
+    text(to, before);
+    number(to, n, 0);
+    text(to, after);
+}
+
+// A hexadecimal digit as the papers write it, in capitals.
+fn digit(n: u8) -> u8 {
+    let d = n % 16;
+    if d < 10 { 48 + d } else { 55 + d }
+}
+
+// A byte in two hexadecimal digits.
+pub fn hex(to: i32, b: u8) {
+    let digits = [digit(b / 16), digit(b)];
+    text(to, &digits);
+}
+
+// Bytes in hexadecimal, a space in front of each.
+pub fn row(to: i32, s: &[u8]) {
+    for i in 0..s.len() {
+        text(to, b" ");
+        hex(to, s[i]);
+    }
+}

@@ -33,7 +33,8 @@ fn save(s: Site, text: &[u8], table: &mut [u8]) -> Site {
 }
 
 // The answer to a load, with its place where it is refused.
-fn loads(answer: u8, place: usize) {
+fn loads(what: &[u8], answer: u8, place: usize) {
+    say::text(what);
     say::meaning(answer);
     if answer != answer::DONE {
         say::counted(b", at byte ", place as u64, b"");
@@ -42,7 +43,7 @@ fn loads(answer: u8, place: usize) {
 }
 
 // Loads a profile; the answer and the position should be the ones wanted.
-fn load(mut s: Site, profile: &[u8], wanted: u8, place: usize) -> Site {
+fn load(mut s: Site, what: &[u8], profile: &[u8], wanted: u8, place: usize) -> Site {
     let before = s.display.settings;
     let loaded = profile::load(before, profile);
     let position = loaded.position;
@@ -50,7 +51,7 @@ fn load(mut s: Site, profile: &[u8], wanted: u8, place: usize) -> Site {
     let mut d = s.display;
     d.settings = after;
     s.display = d;
-    loads(loaded.answer, position.0);
+    loads(what, loaded.answer, position.0);
     site::also(site::also(s, loaded.answer == wanted), position.0 == place)
 }
 
@@ -90,20 +91,26 @@ fn write(s: Site, out: &mut [u8]) -> Site {
 fn damage(s: Site, profile: [u8; PROFILE_ROOM]) -> Site {
     let mut broken = profile;
     broken[DAMAGED] = 2;
-    say::text(b"    a damaged copy is loaded: ");
-    load(s, &broken, answer::BROKEN_PROFILE, RECORD_SIZE)
+    load(
+        s,
+        b"    a damaged copy is loaded: ",
+        &broken,
+        answer::BROKEN_PROFILE,
+        RECORD_SIZE,
+    )
 }
 
 // A change, and the profile loaded over it.
 fn restore(s: Site, text: &[u8], table: &mut [u8], profile: &[u8]) -> Site {
-    say::text(b"    Set brightness  ");
     let a = tent::set(s, text, table, tent::BRIGHTNESS, 20, answer::DONE);
-    say::text(b"    the profile is loaded: ");
-    let b = load(a, profile, answer::DONE, PROFILE_ROOM);
-    say::text(b"    Get brightness  ");
-    let c = tent::get(b, text, table, tent::BRIGHTNESS, 70);
-    say::text(b"\n");
-    c
+    let b = load(
+        a,
+        b"    the profile is loaded: ",
+        profile,
+        answer::DONE,
+        PROFILE_ROOM,
+    );
+    tent::get(b, text, table, tent::BRIGHTNESS, 70)
 }
 
 fn profile(s: Site, text: &[u8], table: &mut [u8]) -> Site {

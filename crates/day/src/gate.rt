@@ -1,9 +1,11 @@
 // The gate: it reads a text of a display over the line, fragment by fragment, and asks again where the line spoils an exchange.
 use crate::line;
 use crate::line::Fate;
+use crate::line::Line;
 use crate::say;
 use crate::site;
 use crate::site::Site;
+use display_rules::Display;
 use display_rules::limits::TABLE_ROOM;
 use message_rules::TextKind;
 use message_rules::answer;
@@ -20,7 +22,7 @@ const BUDGET: usize = 1500;
 const SHOWN: u16 = 10;
 
 // What became of the exchanges.
-pub(crate) struct Tally {
+struct Tally {
     accepted: u64,
     lost: u64,
     cut: u64,
@@ -29,16 +31,17 @@ pub(crate) struct Tally {
 }
 
 // A transfer under way.
-pub(crate) struct Reading {
-    pub(crate) site: Site,
-    pub(crate) transfer: Transfer,
+struct Reading {
+    display: Display,
+    line: Line,
+    transfer: Transfer,
     tally: Tally,
     shown: u16,
 }
 
-// The site after an exchange, and how many bytes came.
+// The display after its turn, and how many bytes came.
 struct Arrived {
-    site: Site,
+    display: Display,
     came: usize,
 }
 
@@ -74,7 +77,8 @@ fn tallied(mut t: Tally, fate: Fate, answer: u8) -> Tally {
 
 // The request goes over the line to the display, and what comes back stands on the wire. A request that is lost reaches the display as no bytes, which change nothing.
 fn turn(
-    s: Site,
+    d: Display,
+    l: Line,
     transfer: Transfer,
     fate: Fate,
     text: &[u8],
@@ -85,17 +89,11 @@ fn turn(
     let mut reply = [0u8; OUTPUT_ROOM];
     let asked = transfer::request(transfer, &mut request);
     let message = front(&request, line::heard(fate, asked.len));
-    let before = s.display;
-    let stepped = display::step(before, text, table, message, &mut reply);
-    let line = s.line;
-    let came = line::carry(line, fate, front(&reply, stepped.length), wire);
-    let mut after = s;
-    let display = stepped.display;
-    let next = line::after(line, came);
-    after.display = display;
-    after.line = next;
+    let stepped = display::step(d, text, table, message, &mut reply);
+    let came = line::carry(l, fate, front(&reply, stepped.length), wire);
+    let next = stepped.display;
     Arrived {
-        site: after,
+        display: next,
         came: came,
     }
 }
@@ -128,17 +126,19 @@ fn exchange(
     buffer: &mut [u8],
     wire: &mut [u8],
 ) -> Reading {
-    let site = r.site;
+    let d = r.display;
+    let l = r.line;
     let transfer = r.transfer;
     let tally = r.tally;
-    let fate = line::draw(site.line.seed);
-    let arrived = turn(site, transfer, fate, text, table, wire);
+    let fate = line::draw(l.seed);
+    let arrived = turn(d, l, transfer, fate, text, table, wire);
     let received = transfer::receive(transfer, buffer, front(wire, arrived.came));
     trace(r.shown, transfer, fate, arrived.came, received);
-    let next = arrived.site;
+    let next = arrived.display;
     let after = received.transfer;
     Reading {
-        site: next,
+        display: next,
+        line: line::after(l, arrived.came),
         transfer: after,
         tally: tallied(tally, fate, received.answer),
         shown: r.shown,
@@ -186,32 +186,25 @@ fn exchanges(
     r
 }
 
-// A whole transfer.
-fn run(
-    kind: TextKind,
-    s: Site,
-    shown: u16,
-    text: &[u8],
-    table: &mut [u8],
-    buffer: &mut [u8],
-) -> Reading {
-    let mut wire = [0u8; OUTPUT_ROOM];
+// A transfer before its first exchange.
+fn begin(kind: TextKind, s: Site, shown: u16, buffer: &[u8]) -> Reading {
+    let d = s.display;
+    let l = s.line;
     let begun = transfer::begin(kind, buffer, BUDGET);
     let transfer = begun.transfer;
-    let tally = Tally {
-        accepted: 0,
-        lost: 0,
-        cut: 0,
-        flipped: 0,
-        repeated: 0,
-    };
-    let first = Reading {
-        site: s,
+    Reading {
+        display: d,
+        line: l,
         transfer: transfer,
-        tally: tally,
+        tally: Tally {
+            accepted: 0,
+            lost: 0,
+            cut: 0,
+            flipped: 0,
+            repeated: 0,
+        },
         shown: shown,
-    };
-    exchanges(first, text, table, buffer, &mut wire)
+    }
 }
 
 // How the transfer went.
@@ -229,15 +222,23 @@ fn report(t: Transfer, tally: Tally) {
 }
 
 // What was read should be these bytes.
-fn judged(r: Reading, read: &[u8], wanted: &[u8]) -> Site {
+fn judged(r: Reading, read: &[u8], wanted: &[u8]) -> bool {
     let t = r.transfer;
     let tally = r.tally;
-    let after = r.site;
     report(t, tally);
     let same = check::same(wanted, front(read, t.reached.0 as usize));
     say::counted(b"    ", t.reached.0 as u64, b" bytes read; ");
     say::compared(b"with what was written: ", same);
-    site::also(site::also(after, same), is_done(t))
+    if same { is_done(t) } else { false }
+}
+
+// The site after a transfer.
+fn after(mut s: Site, r: Reading, good: bool) -> Site {
+    let d = r.display;
+    let l = r.line;
+    s.display = d;
+    s.line = l;
+    site::also(s, good)
 }
 
 // A transfer of a text that should come to these bytes.
@@ -250,8 +251,10 @@ pub(crate) fn read(
     wanted: &[u8],
 ) -> Site {
     let mut buffer = [0u8; TABLE_ROOM];
-    let r = run(kind, s, shown, text, table, &mut buffer);
-    judged(r, &buffer, wanted)
+    let mut wire = [0u8; OUTPUT_ROOM];
+    let first = begin(kind, s, shown, &buffer);
+    let r = exchanges(first, text, table, &mut buffer, &mut wire);
+    after(s, r, judged(r, &buffer, wanted))
 }
 
 pub(crate) fn read_list(number: u64, s: Site, text: &[u8], list: &[u8], table: &mut [u8]) -> Site {

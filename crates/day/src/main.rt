@@ -18,45 +18,37 @@ struct Pair {
 }
 
 // What is done with each display in turn.
-enum Task {
-    WriteList,
-    Settings,
-    Gate,
-    Capabilities,
-    Dusk,
-}
+const TASKS: usize = 5;
 
 // The time of day, and what is done.
-fn heading(task: Task) {
+fn heading(task: usize) {
     match task {
-        Task::WriteList => say::text(
+        0 => say::text(
             b"05:10  the tent writes the call list: 85 records, at most 31 bytes a message\n",
         ),
-        Task::Settings => say::text(
+        1 => say::text(
             b"05:30  the tent sets brightness (at most 100) and input (15 is DisplayPort, 17 is HDMI)\n",
         ),
-        Task::Gate => say::text(
+        2 => say::text(
             b"06:00  the gates read the list back over long cables (offsets and sizes in bytes)\n",
         ),
-        Task::Capabilities => say::text(
-            b"12:00  a volunteer reads the capabilities strings over the same cables\n",
-        ),
-        Task::Dusk => say::text(b"18:30  dusk: the settings are saved and the list is cleared\n"),
+        3 => say::text(b"12:00  a volunteer reads the capabilities strings over the same cables\n"),
+        _ => say::text(b"18:30  dusk: the settings are saved and the list is cleared\n"),
     }
 }
 
-fn perform(task: Task, number: u64, s: Site, text: &[u8], list: &[u8], table: &mut [u8]) -> Site {
-    say::display(number);
+fn perform(task: usize, number: u64, s: Site, text: &[u8], list: &[u8], table: &mut [u8]) -> Site {
+    say::counted(b"  display ", number, b"\n");
     match task {
-        Task::WriteList => tent::write_list(s, text, list, table),
-        Task::Settings => tent::settings(s, text, table),
-        Task::Gate => gate::read_list(number, s, text, list, table),
-        Task::Capabilities => volunteer::read_capabilities(number, s, text, table),
-        Task::Dusk => dusk::close(s, text, table),
+        0 => tent::write_list(s, text, list, table),
+        1 => tent::settings(s, text, table),
+        2 => gate::read_list(number, s, text, list, table),
+        3 => volunteer::read_capabilities(number, s, text, table),
+        _ => dusk::close(s, text, table),
     }
 }
 
-fn both(task: Task, p: Pair, text: &[u8], list: &[u8], one: &mut [u8], two: &mut [u8]) -> Pair {
+fn both(task: usize, p: Pair, text: &[u8], list: &[u8], one: &mut [u8], two: &mut [u8]) -> Pair {
     heading(task);
     let first = p.one;
     let second = p.two;
@@ -72,25 +64,15 @@ fn start(text: &[u8]) -> Pair {
     Pair { one: one, two: two }
 }
 
-// The day so far: each part of it begins with the one before.
-fn morning(text: &[u8], list: &[u8], one: &mut [u8], two: &mut [u8]) -> Pair {
-    let written = both(Task::WriteList, start(text), text, list, one, two);
-    both(Task::Settings, written, text, list, one, two)
-}
-
-fn noon(text: &[u8], list: &[u8], one: &mut [u8], two: &mut [u8]) -> Pair {
-    let set = morning(text, list, one, two);
-    both(Task::Gate, set, text, list, one, two)
-}
-
-fn afternoon(text: &[u8], list: &[u8], one: &mut [u8], two: &mut [u8]) -> Pair {
-    let read = noon(text, list, one, two);
-    both(Task::Capabilities, read, text, list, one, two)
-}
-
 fn day(text: &[u8], list: &[u8], one: &mut [u8], two: &mut [u8]) -> Pair {
-    let read = afternoon(text, list, one, two);
-    both(Task::Dusk, read, text, list, one, two)
+    let mut p = start(text);
+    let mut task: usize = 0;
+    while task < TASKS {
+        let next = both(task, p, text, list, one, two);
+        p = next;
+        task += 1;
+    }
+    p
 }
 
 fn main() {

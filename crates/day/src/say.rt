@@ -25,11 +25,6 @@ pub(crate) fn answered(what: &[u8], answer: u8) {
     text(b"\n");
 }
 
-// Under a heading, the display that the next lines are about.
-pub(crate) fn display(n: u64) {
-    counted(b"  display ", n, b"\n");
-}
-
 // What was compared, and whether it was the same.
 pub(crate) fn compared(what: &[u8], same: bool) {
     text(what);

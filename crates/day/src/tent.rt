@@ -30,6 +30,9 @@ const DEGAUSS: u8 = 0x01;
 // The brightest value.
 const FULL: u16 = 100;
 
+// How many codes a display here has.
+const CODES: usize = 4;
+
 // The messages that carry the list.
 const WRITES: usize = (LIST_SIZE + MOST_WRITTEN - 1) / MOST_WRITTEN;
 
@@ -57,18 +60,37 @@ fn declare(mut s: Site, d: Declaration, wanted: u8) -> Site {
     site::also(s, declared.answer == wanted)
 }
 
+// The codes that every display here has, and as the last one the call list's, which is refused.
+fn declaration(k: usize) -> Declaration {
+    match k {
+        0 => code(BRIGHTNESS, 0, true, FULL, 80),
+        1 => code(CONTRAST, 0, true, FULL, 50),
+        2 => code(INPUT, 0, false, 0, 17),
+        3 => code(DEGAUSS, 1, false, 0, 0),
+        _ => code(TABLE_CODE, 0, false, 0, 0),
+    }
+}
+
+fn declare_codes(first: Site) -> Site {
+    let mut s = first;
+    let mut k: usize = 0;
+    while k < CODES {
+        let next = declare(s, declaration(k), answer::DONE);
+        s = next;
+        k += 1;
+    }
+    s
+}
+
 fn declare_all(s: Site) -> Site {
-    let a = declare(s, code(BRIGHTNESS, 0, true, FULL, 80), answer::DONE);
-    let b = declare(a, code(CONTRAST, 0, true, FULL, 50), answer::DONE);
-    let c = declare(b, code(INPUT, 0, false, 0, 0x11), answer::DONE);
-    let d = declare(c, code(DEGAUSS, 1, false, 0, 0), answer::DONE);
+    let a = declare_codes(s);
     say::answered(
         b"    brightness (10), contrast (12), input (60), degauss (01): ",
-        d.answer,
+        a.answer,
     );
-    let e = declare(d, code(TABLE_CODE, 0, false, 0, 0), answer::NOT_DECLARABLE);
-    say::answered(b"    code F4, which is the call list's: ", e.answer);
-    e
+    let b = declare(a, declaration(CODES), answer::NOT_DECLARABLE);
+    say::answered(b"    code F4, which is the call list's: ", b.answer);
+    b
 }
 
 // A display at the end of a line, which goes by this seed.
@@ -156,6 +178,23 @@ pub(crate) fn write_list(s: Site, text: &[u8], list: &[u8], table: &mut [u8]) ->
 
 // ---- settings
 
+// A code by its name, in a column of 12 letters.
+fn name(code: u8) {
+    match code {
+        BRIGHTNESS => say::text(b"brightness  "),
+        CONTRAST => say::text(b"contrast    "),
+        INPUT => say::text(b"input       "),
+        _ => say::text(b"degauss     "),
+    }
+}
+
+// A line about a value of a code.
+fn line(what: &[u8], code: u8, value: u16) {
+    say::text(what);
+    name(code);
+    say::number(value as u64, 3);
+}
+
 pub(crate) fn set(
     s: Site,
     text: &[u8],
@@ -167,7 +206,7 @@ pub(crate) fn set(
     let mut m = [0u8; OUTPUT_ROOM];
     let built = request::build_set(TO_DISPLAY, code, value, &mut m);
     let after = site::send(s, text, table, front(&m, site::length_of(built)), wanted);
-    say::number(value as u64, 3);
+    line(b"    Set ", code, value);
     say::answered(b":  ", after.answer);
     after
 }
@@ -191,45 +230,27 @@ pub(crate) fn get(s: Site, text: &[u8], table: &mut [u8], code: u8, wanted: u16)
     let message = front(&m, site::length_of(built));
     let after = site::ask(s, text, table, message, &mut out, answer::DONE);
     let value = value_of(&out);
-    say::number(value as u64, 3);
+    line(b"    Get ", code, value);
+    say::text(b"\n");
     site::also(after, value == wanted)
 }
 
 // Brightness, with a value that is refused.
-fn set_brightness(s: Site, text: &[u8], table: &mut [u8]) -> Site {
-    say::text(b"    Set brightness  ");
+fn brightness(s: Site, text: &[u8], table: &mut [u8]) -> Site {
     let a = set(s, text, table, BRIGHTNESS, 70, answer::DONE);
-    say::text(b"    Set brightness  ");
-    set(
+    let b = set(
         a,
         text,
         table,
         BRIGHTNESS,
         FULL + 1,
         answer::VALUE_TOO_LARGE,
-    )
-}
-
-// Input, and the momentary code.
-fn set_input(s: Site, text: &[u8], table: &mut [u8]) -> Site {
-    say::text(b"    Set input       ");
-    let a = set(s, text, table, INPUT, 15, answer::DONE);
-    say::text(b"    Set degauss     ");
-    set(a, text, table, DEGAUSS, 1, answer::DONE)
-}
-
-// What the display then has.
-fn get_both(s: Site, text: &[u8], table: &mut [u8]) -> Site {
-    say::text(b"    Get brightness  ");
-    let a = get(s, text, table, BRIGHTNESS, 70);
-    say::text(b", input ");
-    let b = get(a, text, table, INPUT, 15);
-    say::text(b"\n");
-    b
+    );
+    get(b, text, table, BRIGHTNESS, 70)
 }
 
 pub(crate) fn settings(s: Site, text: &[u8], table: &mut [u8]) -> Site {
-    let a = set_brightness(s, text, table);
-    let b = set_input(a, text, table);
-    get_both(b, text, table)
+    let a = brightness(s, text, table);
+    let b = set(a, text, table, INPUT, 15, answer::DONE);
+    set(b, text, table, DEGAUSS, 1, answer::DONE)
 }

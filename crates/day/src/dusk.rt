@@ -1,9 +1,8 @@
 // Dusk: the settings are saved, a profile is written and tried, and the list is cleared.
-use crate::say;
+use crate::OUT;
 use crate::site;
 use crate::site::Site;
 use crate::tent;
-use libc::STDOUT_FILENO;
 use message::request;
 use message_rules::TO_DISPLAY;
 use message_rules::answer;
@@ -28,18 +27,18 @@ fn save(s: Site, text: &[u8], table: &mut [u8]) -> Site {
         front(&m, site::length_of(built)),
         answer::DONE,
     );
-    say::answered(b"    Save: ", after.answer);
+    show::answered(OUT, b"    Save: ", after.answer);
     after
 }
 
 // The answer to a load, with its place where it is refused.
 fn loads(what: &[u8], answer: u8, place: usize) {
-    say::text(what);
-    say::meaning(answer);
+    show::text(OUT, what);
+    show::answer::meaning(OUT, answer);
     if answer != answer::DONE {
-        say::counted(b", at byte ", place as u64, b"");
+        show::counted(OUT, b", at byte ", place as u64, b"");
     }
-    say::text(b"\n");
+    show::text(OUT, b"\n");
 }
 
 // Loads a profile; the answer and the position should be the ones wanted.
@@ -64,11 +63,11 @@ fn record(r: &[u8]) {
     if r.len() < RECORD_SIZE {
         return;
     }
-    say::text(b"     ");
-    show::row(STDOUT_FILENO, r);
-    say::text(b"   code ");
-    show::hex(STDOUT_FILENO, r[4]);
-    say::counted(b": ", word(r[5], r[6]), b"\n");
+    show::text(OUT, b"     ");
+    show::row(OUT, r);
+    show::text(OUT, b"   code ");
+    show::hex(OUT, r[4]);
+    show::counted(OUT, b": ", word(r[5], r[6]), b"\n");
 }
 
 // Brightness, contrast and input.
@@ -82,7 +81,12 @@ fn records(profile: &[u8]) {
 fn write(s: Site, out: &mut [u8]) -> Site {
     let settings = s.display.settings;
     let written = profile::write(settings, out);
-    say::counted(b"    the profile has ", written.length as u64, b" bytes\n");
+    show::counted(
+        OUT,
+        b"    the profile has ",
+        written.length as u64,
+        b" bytes\n",
+    );
     records(out);
     site::also(s, written.answer == answer::DONE)
 }
@@ -124,12 +128,13 @@ fn profile(s: Site, text: &[u8], table: &mut [u8]) -> Site {
 fn clear(s: Site, text: &[u8], table: &mut [u8]) -> Site {
     let after = tent::write(s, text, table, 0, b"");
     let left = site::stored(after);
-    say::counted(
+    show::counted(
+        OUT,
         b"    the list is cleared, ",
         left as u64,
         b" bytes are left: ",
     );
-    say::answered(b"", after.answer);
+    show::answered(OUT, b"", after.answer);
     site::also(after, left == 0)
 }
 

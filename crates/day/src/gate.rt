@@ -1,8 +1,8 @@
 // The gate: it reads a text of a display over the line, fragment by fragment, and asks again where the line spoils an exchange.
+use crate::OUT;
 use crate::line;
 use crate::line::Fate;
 use crate::line::Line;
-use crate::say;
 use crate::site;
 use crate::site::Site;
 use display_rules::Display;
@@ -20,6 +20,13 @@ const BUDGET: usize = 1500;
 
 // How many exchanges are shown in full.
 const SHOWN: u16 = 10;
+
+// A transfer's states, as far as the gate tells them apart.
+const RUNNING: u8 = 0;
+
+const DONE: u8 = 1;
+
+const FAILED: u8 = 2;
 
 // What became of the exchanges.
 struct Tally {
@@ -98,24 +105,20 @@ fn turn(
     }
 }
 
-// How many bytes an exchange joined to the text.
-fn joined(before: Transfer, after: Transfer) -> u64 {
-    std::num::wrapping_sub_u64(after.reached.0 as u64, before.reached.0 as u64)
-}
-
 // An exchange in full, where it is among those that are shown.
 fn trace(shown: u16, t: Transfer, fate: Fate, came: usize, r: Received) {
     if shown <= t.count {
         return;
     }
     let after = r.transfer;
-    say::number(t.count as u64 + 1, 7);
-    say::number(t.reached.0 as u64, 8);
-    say::text(b"   ");
+    let joined = std::num::wrapping_sub_u64(after.reached.0 as u64, t.reached.0 as u64);
+    show::number(OUT, t.count as u64 + 1, 7);
+    show::number(OUT, t.reached.0 as u64, 8);
+    show::text(OUT, b"   ");
     line::name(fate);
-    say::number(came as u64, 2);
-    say::number(joined(t, after), 9);
-    say::answered(b"   ", r.answer);
+    show::number(OUT, came as u64, 2);
+    show::number(OUT, joined, 9);
+    show::answered(OUT, b"   ", r.answer);
 }
 
 // Asking, the display's turn, and receiving what came.
@@ -145,23 +148,14 @@ fn exchange(
     }
 }
 
-fn is_running(t: Transfer) -> bool {
+// Whether a transfer goes on, and how it closed.
+fn state_of(t: Transfer) -> u8 {
     let state = t.state;
     match state {
-        State::Running => true,
-        State::Done => false,
-        State::Exhausted => false,
-        State::Overflowed => false,
-    }
-}
-
-fn is_done(t: Transfer) -> bool {
-    let state = t.state;
-    match state {
-        State::Running => false,
-        State::Done => true,
-        State::Exhausted => false,
-        State::Overflowed => false,
+        State::Running => RUNNING,
+        State::Done => DONE,
+        State::Exhausted => FAILED,
+        State::Overflowed => FAILED,
     }
 }
 
@@ -178,7 +172,7 @@ fn exchanges(
         let next = exchange(r, text, table, buffer, wire);
         r = next;
         let transfer = next.transfer;
-        if !is_running(transfer) {
+        if state_of(transfer) != RUNNING {
             return r;
         }
         left -= 1;
@@ -209,16 +203,17 @@ fn begin(kind: TextKind, s: Site, shown: u16, buffer: &[u8]) -> Reading {
 
 // How the transfer went.
 fn report(t: Transfer, tally: Tally) {
-    say::counted(b"    ", t.count as u64, b" exchanges: ");
-    say::counted(
+    show::counted(OUT, b"    ", t.count as u64, b" exchanges: ");
+    show::counted(
+        OUT,
         b"",
         tally.accepted,
         b" accepted, the last one the empty end; ",
     );
-    say::counted(b"", tally.lost, b" lost, ");
-    say::counted(b"", tally.cut, b" cut, ");
-    say::counted(b"", tally.flipped, b" flipped, ");
-    say::counted(b"", tally.repeated, b" repeated\n");
+    show::counted(OUT, b"", tally.lost, b" lost, ");
+    show::counted(OUT, b"", tally.cut, b" cut, ");
+    show::counted(OUT, b"", tally.flipped, b" flipped, ");
+    show::counted(OUT, b"", tally.repeated, b" repeated\n");
 }
 
 // What was read should be these bytes.
@@ -227,9 +222,9 @@ fn judged(r: Reading, read: &[u8], wanted: &[u8]) -> bool {
     let tally = r.tally;
     report(t, tally);
     let same = check::same(wanted, front(read, t.reached.0 as usize));
-    say::counted(b"    ", t.reached.0 as u64, b" bytes read; ");
-    say::compared(b"with what was written: ", same);
-    if same { is_done(t) } else { false }
+    show::counted(OUT, b"    ", t.reached.0 as u64, b" bytes read; ");
+    show::compared(OUT, b"with what was written: ", same);
+    if same { state_of(t) == DONE } else { false }
 }
 
 // The site after a transfer.
@@ -259,7 +254,10 @@ pub(crate) fn read(
 
 pub(crate) fn read_list(number: u64, s: Site, text: &[u8], list: &[u8], table: &mut [u8]) -> Site {
     if number == 1 {
-        say::text(b"    no. asks at   the line        came   joined   answer\n");
+        show::text(
+            OUT,
+            b"    no. asks at   the line        came   joined   answer\n",
+        );
         return read(TextKind::Table, s, SHOWN, text, table, list);
     }
     read(TextKind::Table, s, 0, text, table, list)

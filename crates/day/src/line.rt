@@ -1,6 +1,6 @@
 // A line that loses, cuts, flips and repeats, by a fixed rule.
-use crate::say;
 
+use crate::OUT;
 // What becomes of an exchange.
 pub(crate) enum Fate {
     Good,
@@ -15,11 +15,6 @@ pub(crate) enum Fate {
 pub(crate) struct Line {
     pub(crate) seed: u64,
     pub(crate) kept: usize,
-}
-
-// The next number of the sequence: a linear congruential generator.
-pub(crate) fn next(seed: u64) -> u64 {
-    seed % 2147483647 * 16807 % 2147483647
 }
 
 // Five exchanges in sixteen are spoiled.
@@ -84,11 +79,11 @@ pub(crate) fn carry(l: Line, fate: Fate, reply: &[u8], wire: &mut [u8]) -> usize
     }
 }
 
-// The line after an exchange in which so many bytes came.
+// The line after an exchange in which so many bytes came. The numbers come from a linear congruential generator.
 pub(crate) fn after(l: Line, came: usize) -> Line {
     let kept = if came == 0 { l.kept } else { came };
     Line {
-        seed: next(l.seed),
+        seed: l.seed % 2147483647 * 16807 % 2147483647,
         kept: kept,
     }
 }
@@ -96,11 +91,11 @@ pub(crate) fn after(l: Line, came: usize) -> Line {
 // In a column of 18 letters.
 pub(crate) fn name(fate: Fate) {
     match fate {
-        Fate::Good => say::text(b"good              "),
-        Fate::RequestLost => say::text(b"request lost      "),
-        Fate::ReplyLost => say::text(b"reply lost        "),
-        Fate::Cut => say::text(b"reply cut         "),
-        Fate::Flipped => say::text(b"bit flipped       "),
-        Fate::Repeated => say::text(b"last reply again  "),
+        Fate::Good => show::text(OUT, b"good              "),
+        Fate::RequestLost => show::text(OUT, b"request lost      "),
+        Fate::ReplyLost => show::text(OUT, b"reply lost        "),
+        Fate::Cut => show::text(OUT, b"reply cut         "),
+        Fate::Flipped => show::text(OUT, b"bit flipped       "),
+        Fate::Repeated => show::text(OUT, b"last reply again  "),
     }
 }

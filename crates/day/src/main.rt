@@ -3,13 +3,15 @@ mod dusk;
 mod gate;
 mod line;
 mod list;
-mod say;
 mod site;
 mod tent;
 mod volunteer;
 
 use display_rules::limits::TABLE_ROOM;
 use site::Site;
+
+// Where the day is told.
+pub(crate) const OUT: i32 = libc::STDOUT_FILENO;
 
 // The two displays.
 struct Pair {
@@ -23,22 +25,31 @@ const TASKS: usize = 5;
 // The time of day, and what is done.
 fn heading(task: usize) {
     match task {
-        0 => say::text(
+        0 => show::text(
+            OUT,
             b"05:10  the tent writes the call list: 85 records, at most 31 bytes a message\n",
         ),
-        1 => say::text(
+        1 => show::text(
+            OUT,
             b"05:30  the tent sets brightness (at most 100) and input (15 is DisplayPort, 17 is HDMI)\n",
         ),
-        2 => say::text(
+        2 => show::text(
+            OUT,
             b"06:00  the gates read the list back over long cables (offsets and sizes in bytes)\n",
         ),
-        3 => say::text(b"12:00  a volunteer reads the capabilities strings over the same cables\n"),
-        _ => say::text(b"18:30  dusk: the settings are saved and the list is cleared\n"),
+        3 => show::text(
+            OUT,
+            b"12:00  a volunteer reads the capabilities strings over the same cables\n",
+        ),
+        _ => show::text(
+            OUT,
+            b"18:30  dusk: the settings are saved and the list is cleared\n",
+        ),
     }
 }
 
 fn perform(task: usize, number: u64, s: Site, text: &[u8], list: &[u8], table: &mut [u8]) -> Site {
-    say::counted(b"  display ", number, b"\n");
+    show::counted(OUT, b"  display ", number, b"\n");
     match task {
         0 => tent::write_list(s, text, list, table),
         1 => tent::settings(s, text, table),
@@ -58,7 +69,7 @@ fn both(task: usize, p: Pair, text: &[u8], list: &[u8], one: &mut [u8], two: &mu
 }
 
 fn start(text: &[u8]) -> Pair {
-    say::text(b"05:00  the tent starts two displays\n");
+    show::text(OUT, b"05:00  the tent starts two displays\n");
     let one = tent::start(1, text, 32, 26302);
     let two = tent::start(2, text, 7, 20979);
     Pair { one: one, two: two }
@@ -75,6 +86,16 @@ fn day(text: &[u8], list: &[u8], one: &mut [u8], two: &mut [u8]) -> Pair {
     p
 }
 
+fn verdict(one: bool, two: bool) {
+    if one {
+        if two {
+            show::text(OUT, b"everything held\n");
+            return;
+        }
+    }
+    show::text(OUT, b"NOT EVERYTHING HELD\n");
+}
+
 fn main() {
     let list = list::call_list();
     let mut one = [0u8; TABLE_ROOM];
@@ -85,5 +106,5 @@ fn main() {
         &mut one,
         &mut two,
     );
-    say::verdict(end.one.good, end.two.good);
+    verdict(end.one.good, end.two.good);
 }

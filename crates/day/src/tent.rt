@@ -1,7 +1,7 @@
 // The tent: it starts the displays, declares their codes, writes the call list, and sets brightness and input.
+use crate::OUT;
 use crate::line::Line;
 use crate::list::LIST_SIZE;
-use crate::say;
 use crate::site;
 use crate::site::Site;
 use message::ReplyRead;
@@ -84,12 +84,13 @@ fn declare_codes(first: Site) -> Site {
 
 fn declare_all(s: Site) -> Site {
     let a = declare_codes(s);
-    say::answered(
+    show::answered(
+        OUT,
         b"    brightness (10), contrast (12), input (60), degauss (01): ",
         a.answer,
     );
     let b = declare(a, declaration(CODES), answer::NOT_DECLARABLE);
-    say::answered(b"    code F4, which is the call list's: ", b.answer);
+    show::answered(OUT, b"    code F4, which is the call list's: ", b.answer);
     b
 }
 
@@ -101,9 +102,9 @@ pub(crate) fn start(number: u64, text: &[u8], size: u16, seed: u64) -> Site {
         vertical: 6000,
     };
     let started = display::start(timing, text, size);
-    say::counted(b"  display ", number, b", which sends fragments of ");
-    say::counted(b"", size as u64, b" bytes: ");
-    say::answered(b"", started.answer);
+    show::counted(OUT, b"  display ", number, b", which sends fragments of ");
+    show::counted(OUT, b"", size as u64, b" bytes: ");
+    show::answered(OUT, b"", started.answer);
     let fresh = started.display;
     let line = Line {
         seed: seed,
@@ -157,16 +158,17 @@ fn write_parts(first: Site, text: &[u8], list: &[u8], table: &mut [u8]) -> Site 
 
 // What the writes came to.
 fn written(s: Site, messages: u64, list: &[u8], table: &[u8]) -> Site {
-    say::counted(
+    show::counted(
+        OUT,
         b"    ",
         WRITES as u64,
         b" writes, every third delivered twice: ",
     );
-    say::counted(b"", messages, b" messages\n");
+    show::counted(OUT, b"", messages, b" messages\n");
     let stored = site::stored(s);
-    say::counted(b"    the display holds ", stored as u64, b" bytes; ");
+    show::counted(OUT, b"    the display holds ", stored as u64, b" bytes; ");
     let same = check::same(list, front(table, stored));
-    say::compared(b"with the tent's list: ", same);
+    show::compared(OUT, b"with the tent's list: ", same);
     site::also(s, same)
 }
 
@@ -181,18 +183,18 @@ pub(crate) fn write_list(s: Site, text: &[u8], list: &[u8], table: &mut [u8]) ->
 // A code by its name, in a column of 12 letters.
 fn name(code: u8) {
     match code {
-        BRIGHTNESS => say::text(b"brightness  "),
-        CONTRAST => say::text(b"contrast    "),
-        INPUT => say::text(b"input       "),
-        _ => say::text(b"degauss     "),
+        BRIGHTNESS => show::text(OUT, b"brightness  "),
+        CONTRAST => show::text(OUT, b"contrast    "),
+        INPUT => show::text(OUT, b"input       "),
+        _ => show::text(OUT, b"degauss     "),
     }
 }
 
 // A line about a value of a code.
 fn line(what: &[u8], code: u8, value: u16) {
-    say::text(what);
+    show::text(OUT, what);
     name(code);
-    say::number(value as u64, 3);
+    show::number(OUT, value as u64, 3);
 }
 
 pub(crate) fn set(
@@ -207,7 +209,7 @@ pub(crate) fn set(
     let built = request::build_set(TO_DISPLAY, code, value, &mut m);
     let after = site::send(s, text, table, front(&m, site::length_of(built)), wanted);
     line(b"    Set ", code, value);
-    say::answered(b":  ", after.answer);
+    show::answered(OUT, b":  ", after.answer);
     after
 }
 
@@ -231,7 +233,7 @@ pub(crate) fn get(s: Site, text: &[u8], table: &mut [u8], code: u8, wanted: u16)
     let after = site::ask(s, text, table, message, &mut out, answer::DONE);
     let value = value_of(&out);
     line(b"    Get ", code, value);
-    say::text(b"\n");
+    show::text(OUT, b"\n");
     site::also(after, value == wanted)
 }
 

@@ -25,6 +25,23 @@ pub fn counted(to: i32, before: &[u8], n: u64, after: &[u8]) {
     text(to, after);
 }
 
+// A line that ends with an answer and its meaning.
+pub fn answered(to: i32, what: &[u8], answer: u8) {
+    text(to, what);
+    answer::meaning(to, answer);
+    text(to, b"\n");
+}
+
+// A line that ends with whether two texts were the same.
+pub fn compared(to: i32, what: &[u8], same: bool) {
+    text(to, what);
+    if same {
+        text(to, b"the same, byte for byte\n");
+    } else {
+        text(to, b"NOT THE SAME\n");
+    }
+}
+
 // A hexadecimal digit as the papers write it, in capitals.
 fn digit(n: u8) -> u8 {
     let d = n % 16;

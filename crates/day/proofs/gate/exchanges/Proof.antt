@@ -17,8 +17,8 @@ loop-holds c = search needs
 exchange-requires : tie.Need-exchange-requires Inv-loop μ-loop
 exchange-requires c κs = search needs
 
-is-running-requires : tie.Need-is-running-requires Inv-loop μ-loop
-is-running-requires c κs = search needs
+state-of-requires : tie.Need-state-of-requires Inv-loop μ-loop
+state-of-requires c κs = search needs
 
 same-length : tie.Need-same-length Inv-loop μ-loop
 same-length c = search needs
@@ -61,7 +61,7 @@ exchanges-spec =
     μ-loop
     loop-holds
     exchange-requires
-    is-running-requires
+    state-of-requires
     same-length
     same-length-2
     same-length-3

@@ -1,20 +1,13 @@
 //! The display program on its pipe (docs/DISPLAY-PIPE.md) against the oracle's display: start, declare, every command, profile write and load.
 mod common;
-use common::rounds;
+use common::{program, rounds};
 use oracle::display::{Display, Timing};
 use oracle::line::Random;
 use oracle::message as slow;
 use oracle::profile;
 use oracle::settings::Declaration;
 use std::io::{Read, Write};
-use std::path::{Path, PathBuf};
 use std::process::{Child, ChildStdin, ChildStdout, Command, Stdio};
-
-fn program() -> PathBuf {
-    let path = Path::new(env!("CARGO_MANIFEST_DIR")).join("../../target/bin/display_pipe");
-    assert!(path.exists(), "{} is missing: run `rt check display_pipe` in the repository first", path.display());
-    path
-}
 
 struct Pipe {
     child: Child,
@@ -24,7 +17,7 @@ struct Pipe {
 
 impl Pipe {
     fn start() -> Pipe {
-        let mut child = Command::new(program())
+        let mut child = Command::new(program("display_pipe"))
             .stdin(Stdio::piped())
             .stdout(Stdio::piped())
             .stderr(Stdio::piped())

@@ -2,6 +2,14 @@
 #![allow(dead_code)]
 use ddcci::{Refusal, Reply, Request};
 use oracle::message as slow;
+use std::path::{Path, PathBuf};
+
+/// A program that `rt check` has built.
+pub fn program(name: &str) -> PathBuf {
+    let path = Path::new(env!("CARGO_MANIFEST_DIR")).join("../../target/bin").join(name);
+    assert!(path.exists(), "{} is missing: run `rt check {name}` in the repository first", path.display());
+    path
+}
 
 /// How many times a random test runs: `rounds(n)` is n, or n times the number in `PANEKNOLL_LONGER`.
 pub fn rounds(n: usize) -> usize {

@@ -1,0 +1,122 @@
+// What the host does before it reads: it starts the display, declares codes, writes the list, and sets and gets brightness.
+use crate::pipe;
+use crate::pipe::Host;
+use message::Built;
+use message::ReplyRead;
+use message::reply::read_display_reply;
+use message::request;
+use message_rules::TABLE_CODE;
+use message_rules::TO_DISPLAY;
+use message_rules::TextOffset;
+use message_rules::limits::MOST_WRITTEN;
+use message_rules::limits::OUTPUT_ROOM;
+use show::part::behind;
+use show::part::front;
+
+const BRIGHTNESS: u8 = 0x10;
+
+// The brightness that is set.
+pub(crate) const BRIGHT: u16 = 70;
+
+// How often a Get is sent where the line spoils its reply.
+const TRIES: usize = 50;
+
+// The host after a Get, whether a value came, and the value.
+pub(crate) struct Got {
+    pub(crate) host: Host,
+    pub(crate) came: bool,
+    pub(crate) present: u16,
+}
+
+fn length_of(built: Built) -> usize {
+    match built {
+        Built::Done(n) => n,
+        Built::Refused(_) => 0,
+    }
+}
+
+// A start, then brightness (80 of 100) and input (17, not continuous).
+pub(crate) fn start(h: Host, record: &[u8]) -> Host {
+    let a = pipe::tell(h, pipe::START, record);
+    let b = pipe::tell(a, pipe::DECLARE, b"\x10\x01\x01\x00\x01\x64\x00\x50\x00");
+    pipe::tell(b, pipe::DECLARE, b"\x60\x01\x01\x00\x00\x00\x00\x11\x00")
+}
+
+// A Table write of the list's bytes from a number on.
+fn write_part(h: Host, list: &[u8], at: usize) -> Host {
+    let mut m = [0u8; OUTPUT_ROOM];
+    let offset = TextOffset((at % 65536) as u16);
+    let data = front(behind(list, at), MOST_WRITTEN);
+    let built = request::build_table_write(TO_DISPLAY, TABLE_CODE, offset, data, &mut m);
+    pipe::tell(h, pipe::MESSAGE, front(&m, length_of(built)))
+}
+
+// The list in its two parts.
+pub(crate) fn write_list(h: Host, list: &[u8]) -> Host {
+    let a = write_part(h, list, 0);
+    write_part(a, list, MOST_WRITTEN)
+}
+
+fn set(h: Host, value: u16) -> Host {
+    let mut m = [0u8; OUTPUT_ROOM];
+    let built = request::build_set(TO_DISPLAY, BRIGHTNESS, value, &mut m);
+    pipe::tell(h, pipe::MESSAGE, front(&m, length_of(built)))
+}
+
+// What a reply to a Get says. A reply that the line has spoiled says nothing.
+fn heard(h: Host, reply: &[u8]) -> Got {
+    match read_display_reply(reply) {
+        ReplyRead::Value(_, _, _, _, present) => Got {
+            host: h,
+            came: true,
+            present: present,
+        },
+        ReplyRead::Timing(_, _, _) => nothing(h),
+        ReplyRead::TextFragment(_, _, _) => nothing(h),
+        ReplyRead::TableFragment(_, _, _) => nothing(h),
+        ReplyRead::Refused(_) => nothing(h),
+    }
+}
+
+fn nothing(h: Host) -> Got {
+    Got {
+        host: h,
+        came: false,
+        present: 0,
+    }
+}
+
+fn get_once(before: Host) -> Got {
+    let mut m = [0u8; OUTPUT_ROOM];
+    let mut reply = [0u8; OUTPUT_ROOM];
+    let built = request::build_get(TO_DISPLAY, BRIGHTNESS, &mut m);
+    let h = pipe::exchange(
+        before,
+        pipe::MESSAGE,
+        front(&m, length_of(built)),
+        &mut reply,
+    );
+    if h.fault != pipe::NONE {
+        return nothing(h);
+    }
+    heard(h, front(&reply, h.length))
+}
+
+fn get(first: Host) -> Got {
+    let mut g = nothing(first);
+    let mut left = TRIES;
+    while left > 0 {
+        let h = g.host;
+        let next = get_once(h);
+        g = next;
+        if next.came {
+            return g;
+        }
+        left -= 1;
+    }
+    g
+}
+
+pub(crate) fn set_and_get(h: Host) -> Got {
+    get(set(h, BRIGHT))
+}

@@ -1,0 +1,118 @@
+// The records of the pipe, from the host's side.
+use libc::STDIN_FILENO;
+use libc::STDOUT_FILENO;
+use message_rules::answer::DONE;
+use message_rules::limits::OUTPUT_ROOM;
+
+// The kinds of records that the host sends.
+pub(crate) const START: u8 = 1;
+
+pub(crate) const DECLARE: u8 = 2;
+
+pub(crate) const MESSAGE: u8 = 3;
+
+// The bytes in front of a reply: the answer number and the reply's length.
+const HEAD: usize = 3;
+
+// What went wrong on the pipe.
+pub(crate) const NONE: u8 = 0;
+
+pub(crate) const ENDED: u8 = 1;
+
+pub(crate) const CUT: u8 = 2;
+
+pub(crate) const TOO_LONG: u8 = 3;
+
+pub(crate) const NOT_DUE: u8 = 4;
+
+pub(crate) const REFUSED: u8 = 5;
+
+pub(crate) const NOT_WRITTEN: u8 = 6;
+
+// How many records were sent, the answer and the reply's length of the last one that came back, and what went wrong.
+pub(crate) struct Host {
+    pub(crate) records: u64,
+    pub(crate) answer: u8,
+    pub(crate) length: usize,
+    pub(crate) fault: u8,
+}
+
+pub(crate) fn fresh() -> Host {
+    Host {
+        records: 0,
+        answer: DONE,
+        length: 0,
+        fault: NONE,
+    }
+}
+
+pub(crate) fn faulty(mut h: Host, fault: u8) -> Host {
+    h.fault = fault;
+    h
+}
+
+// A 16-bit number of a record, the low byte first.
+fn word(low: u8, high: u8) -> usize {
+    low as usize + high as usize * 256
+}
+
+fn front_mut(s: &mut [u8], n: usize) -> &mut [u8] {
+    if n < s.len() { &mut s[0..n] } else { s }
+}
+
+fn write_record(kind: u8, body: &[u8]) -> bool {
+    let length = body.len();
+    let head = [kind, (length % 256) as u8, (length / 256 % 256) as u8];
+    if io::write_all(STDOUT_FILENO, &head) {
+        return io::write_all(STDOUT_FILENO, body);
+    }
+    false
+}
+
+fn read_record(mut h: Host, reply: &mut [u8]) -> Host {
+    let mut head = [0u8; HEAD];
+    let got = io::read_full(STDIN_FILENO, &mut head);
+    if got == 0 {
+        return faulty(h, ENDED);
+    }
+    if got < HEAD {
+        return faulty(h, CUT);
+    }
+    h.answer = head[0];
+    h.length = word(head[1], head[2]);
+    if reply.len() < h.length {
+        return faulty(h, TOO_LONG);
+    }
+    if io::read_full(STDIN_FILENO, front_mut(reply, h.length)) < h.length {
+        return faulty(h, CUT);
+    }
+    h
+}
+
+// Sends a record and reads the one that comes back. After a fault nothing more is sent.
+pub(crate) fn exchange(mut h: Host, kind: u8, body: &[u8], reply: &mut [u8]) -> Host {
+    if h.fault != NONE {
+        return h;
+    }
+    h.records = std::num::wrapping_add_u64(h.records, 1);
+    if write_record(kind, body) {
+        return read_record(h, reply);
+    }
+    faulty(h, NOT_WRITTEN)
+}
+
+// A record that should be answered with 0 and no reply.
+pub(crate) fn tell(before: Host, kind: u8, body: &[u8]) -> Host {
+    let mut reply = [0u8; OUTPUT_ROOM];
+    let h = exchange(before, kind, body, &mut reply);
+    if h.fault != NONE {
+        return h;
+    }
+    if h.answer != DONE {
+        return faulty(h, REFUSED);
+    }
+    if h.length != 0 {
+        return faulty(h, NOT_DUE);
+    }
+    h
+}

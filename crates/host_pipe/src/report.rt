@@ -1,0 +1,93 @@
+// What the host found, for people: standard output carries the records, so it goes to standard error.
+use crate::job::BRIGHT;
+use crate::pipe;
+use crate::pipe::Host;
+use crate::read;
+use libc::STDERR_FILENO;
+use show::part::front;
+use transfer_rules::Transfer;
+
+const TO: i32 = STDERR_FILENO;
+
+// What is wrong with the record, and what to do.
+fn wrong(h: Host) {
+    let fault = h.fault;
+    match fault {
+        pipe::ENDED => show::text(
+            TO,
+            b" did not come, the input had ended: see what the display wrote to standard error\n",
+        ),
+        pipe::CUT => show::text(
+            TO,
+            b" ends in the middle: see what the display wrote to standard error, and run both again\n",
+        ),
+        pipe::TOO_LONG => show::counted(
+            TO,
+            b" has ",
+            h.length as u64,
+            b" bytes, and a reply at most 38: see that the other end is display_pipe\n",
+        ),
+        pipe::NOT_DUE => show::counted(
+            TO,
+            b" has ",
+            h.length as u64,
+            b" bytes where no reply is due: see that the other end is display_pipe\n",
+        ),
+        pipe::REFUSED => show::answered(TO, b" is refused: ", h.answer),
+        _ => show::text(
+            TO,
+            b" could not be asked for, the output is closed: see what the display wrote to standard error\n",
+        ),
+    }
+}
+
+// One line: which reply record, what is wrong with it, what to do.
+pub(crate) fn fault(h: Host) {
+    show::counted(TO, b"host_pipe: reply record ", h.records, b"");
+    wrong(h);
+}
+
+// The brightness that the display has, which should be the one that was set.
+pub(crate) fn value(records: u64, came: bool, present: u16) -> bool {
+    show::counted(TO, b"records exchanged: ", records, b"\n");
+    if came {
+        show::counted(TO, b"brightness: ", present as u64, b"\n");
+        return present == BRIGHT;
+    }
+    show::text(TO, b"brightness: no value came\n");
+    false
+}
+
+// How a transfer ended, and whether it brought these bytes.
+fn text(what: &[u8], t: Transfer, buffer: &[u8], wanted: &[u8]) -> bool {
+    let same = check::same(wanted, front(buffer, t.reached.0 as usize));
+    show::text(TO, what);
+    show::counted(TO, b": ", t.reached.0 as u64, b" bytes in ");
+    show::counted(TO, b"", t.count as u64, b" exchanges; ");
+    show::compared(TO, b"with what was sent: ", same);
+    if same { read::is_done(t) } else { false }
+}
+
+// The capabilities string, with its tree.
+pub(crate) fn string(t: Transfer, buffer: &[u8], wanted: &[u8]) -> bool {
+    if text(b"capabilities string", t, buffer, wanted) {
+        return show::tree::write(TO, b"  ", front(buffer, t.reached.0 as usize));
+    }
+    false
+}
+
+pub(crate) fn table(t: Transfer, buffer: &[u8], wanted: &[u8]) -> bool {
+    text(b"call list", t, buffer, wanted)
+}
+
+pub(crate) fn verdict(value: bool, string: bool, table: bool) {
+    if value {
+        if string {
+            if table {
+                show::text(TO, b"everything held\n");
+                return;
+            }
+        }
+    }
+    show::text(TO, b"NOT EVERYTHING HELD\n");
+}

@@ -70,15 +70,18 @@ fn record(r: &[u8]) {
     show::counted(OUT, b": ", word(r[5], r[6]), b"\n");
 }
 
-// Brightness, contrast and input.
-fn records(profile: &[u8]) {
+// Brightness, contrast and input, of the first display.
+fn records(number: u64, profile: &[u8]) {
+    if number != 1 {
+        return;
+    }
     record(front(profile, RECORD_SIZE));
     record(front(behind(profile, RECORD_SIZE), RECORD_SIZE));
     record(behind(profile, RECORD_SIZE * 2));
 }
 
 // The profile as it is written.
-fn write(s: Site, out: &mut [u8]) -> Site {
+fn write(s: Site, number: u64, out: &mut [u8]) -> Site {
     let settings = s.display.settings;
     let written = profile::write(settings, out);
     show::counted(
@@ -87,7 +90,7 @@ fn write(s: Site, out: &mut [u8]) -> Site {
         written.length as u64,
         b" bytes\n",
     );
-    records(out);
+    records(number, out);
     site::also(s, written.answer == answer::DONE)
 }
 
@@ -117,9 +120,9 @@ fn restore(s: Site, text: &[u8], table: &mut [u8], profile: &[u8]) -> Site {
     tent::get(b, text, table, tent::BRIGHTNESS, 70)
 }
 
-fn profile(s: Site, text: &[u8], table: &mut [u8]) -> Site {
+fn profile(s: Site, number: u64, text: &[u8], table: &mut [u8]) -> Site {
     let mut out = [0u8; PROFILE_ROOM];
-    let a = write(s, &mut out);
+    let a = write(s, number, &mut out);
     let b = damage(a, out);
     restore(b, text, table, &out)
 }
@@ -138,8 +141,8 @@ fn clear(s: Site, text: &[u8], table: &mut [u8]) -> Site {
     site::also(after, left == 0)
 }
 
-pub(crate) fn close(s: Site, text: &[u8], table: &mut [u8]) -> Site {
+pub(crate) fn close(s: Site, number: u64, text: &[u8], table: &mut [u8]) -> Site {
     let a = save(s, text, table);
-    let b = profile(a, text, table);
+    let b = profile(a, number, text, table);
     clear(b, text, table)
 }

@@ -19,7 +19,7 @@ use transfer_rules::Transfer;
 const BUDGET: usize = 1500;
 
 // How many exchanges are shown in full.
-const SHOWN: u16 = 10;
+const SHOWN: u16 = 8;
 
 // A transfer's states, as far as the gate tells them apart.
 const RUNNING: u8 = 0;
@@ -223,7 +223,7 @@ fn judged(r: Reading, read: &[u8], wanted: &[u8]) -> bool {
     report(t, tally);
     let same = check::same(wanted, front(read, t.reached.0 as usize));
     show::counted(OUT, b"    ", t.reached.0 as u64, b" bytes read; ");
-    show::compared(OUT, b"with what was written: ", same);
+    show::compared(OUT, b"beside what was written: ", same);
     if same { state_of(t) == DONE } else { false }
 }
 

@@ -55,7 +55,7 @@ fn perform(task: usize, number: u64, s: Site, text: &[u8], list: &[u8], table: &
         1 => tent::settings(s, text, table),
         2 => gate::read_list(number, s, text, list, table),
         3 => volunteer::read_capabilities(number, s, text, table),
-        _ => dusk::close(s, text, table),
+        _ => dusk::close(s, number, text, table),
     }
 }
 

@@ -51,23 +51,26 @@ fn code(code: u8, kind: u8, continuous: bool, maximum: u16, present: u16) -> Dec
     }
 }
 
-fn declare(mut s: Site, d: Declaration, wanted: u8) -> Site {
+// A code declared. The first refusal stays the answer.
+fn declare(mut s: Site, d: Declaration) -> Site {
     let before = s.display;
     let declared = display::declare(before, d);
     let after = declared.display;
     s.display = after;
+    if declared.answer == answer::DONE {
+        return s;
+    }
     s.answer = declared.answer;
-    site::also(s, declared.answer == wanted)
+    site::also(s, false)
 }
 
-// The codes that every display here has, and as the last one the call list's, which is refused.
+// The codes that every display here has.
 fn declaration(k: usize) -> Declaration {
     match k {
         0 => code(BRIGHTNESS, 0, true, FULL, 80),
         1 => code(CONTRAST, 0, true, FULL, 50),
         2 => code(INPUT, 0, false, 0, 17),
-        3 => code(DEGAUSS, 1, false, 0, 0),
-        _ => code(TABLE_CODE, 0, false, 0, 0),
+        _ => code(DEGAUSS, 1, false, 0, 0),
     }
 }
 
@@ -75,23 +78,11 @@ fn declare_codes(first: Site) -> Site {
     let mut s = first;
     let mut k: usize = 0;
     while k < CODES {
-        let next = declare(s, declaration(k), answer::DONE);
+        let next = declare(s, declaration(k));
         s = next;
         k += 1;
     }
     s
-}
-
-fn declare_all(s: Site) -> Site {
-    let a = declare_codes(s);
-    show::answered(
-        OUT,
-        b"    brightness (10), contrast (12), input (60), degauss (01): ",
-        a.answer,
-    );
-    let b = declare(a, declaration(CODES), answer::NOT_DECLARABLE);
-    show::answered(OUT, b"    code F4, which is the call list's: ", b.answer);
-    b
 }
 
 // A display at the end of a line, which goes by this seed.
@@ -102,21 +93,27 @@ pub(crate) fn start(number: u64, text: &[u8], size: u16, seed: u64) -> Site {
         vertical: 6000,
     };
     let started = display::start(timing, text, size);
-    show::counted(OUT, b"  display ", number, b", which sends fragments of ");
-    show::counted(OUT, b"", size as u64, b" bytes: ");
-    show::answered(OUT, b"", started.answer);
     let fresh = started.display;
     let line = Line {
         seed: seed,
         kept: 0,
     };
-    declare_all(Site {
+    let s = declare_codes(Site {
         display: fresh,
         line: line,
         answer: started.answer,
         sent: 0,
         good: started.answer == answer::DONE,
-    })
+    });
+    show::counted(OUT, b"  display ", number, b", which sends fragments of ");
+    show::counted(OUT, b"", size as u64, b" bytes: ");
+    show::answered(OUT, b"", started.answer);
+    show::answered(
+        OUT,
+        b"    brightness (10), contrast (12), input (60), degauss (01): ",
+        s.answer,
+    );
+    s
 }
 
 // ---- the call list
@@ -158,17 +155,17 @@ fn write_parts(first: Site, text: &[u8], list: &[u8], table: &mut [u8]) -> Site 
 
 // What the writes came to.
 fn written(s: Site, messages: u64, list: &[u8], table: &[u8]) -> Site {
+    let stored = site::stored(s);
+    let same = check::same(list, front(table, stored));
     show::counted(
         OUT,
         b"    ",
         WRITES as u64,
         b" writes, every third delivered twice: ",
     );
-    show::counted(OUT, b"", messages, b" messages\n");
-    let stored = site::stored(s);
-    show::counted(OUT, b"    the display holds ", stored as u64, b" bytes; ");
-    let same = check::same(list, front(table, stored));
-    show::compared(OUT, b"with the tent's list: ", same);
+    show::counted(OUT, b"", messages, b" messages; ");
+    show::counted(OUT, b"", stored as u64, b" bytes stored; ");
+    show::compared(OUT, b"beside the tent's list: ", same);
     site::also(s, same)
 }
 

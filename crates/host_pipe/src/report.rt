@@ -64,7 +64,7 @@ fn text(what: &[u8], t: Transfer, buffer: &[u8], wanted: &[u8]) -> bool {
     show::text(TO, what);
     show::counted(TO, b": ", t.reached.0 as u64, b" bytes in ");
     show::counted(TO, b"", t.count as u64, b" exchanges; ");
-    show::compared(TO, b"with what was sent: ", same);
+    show::compared(TO, b"beside what was sent: ", same);
     if same { read::is_done(t) } else { false }
 }
 

@@ -12,7 +12,7 @@ use std::process::{Child, Command, Stdio};
 /// What the host reports where nothing is spoiled. 47 and 48 bytes in fragments of 7: seven of them, and the empty end.
 const REPORT: &str = "records exchanged: 23
 brightness: 70
-capabilities string: 47 bytes in 8 exchanges; with what was sent: the same, byte for byte
+capabilities string: 47 bytes in 8 exchanges; beside what was sent: the same, byte for byte
   prot
     monitor
   vcp
@@ -23,7 +23,7 @@ capabilities string: 47 bytes in 8 exchanges; with what was sent: the same, byte
     F4
   mccs_ver
     2.2
-call list: 48 bytes in 8 exchanges; with what was sent: the same, byte for byte
+call list: 48 bytes in 8 exchanges; beside what was sent: the same, byte for byte
 everything held
 ";
 
@@ -144,8 +144,8 @@ fn a_line_that_spoils_everything_ends_at_the_budget() {
     let (said, sent) = over_a_line(1, 100, 3);
     let wanted = "records exchanged: 1056
 brightness: no value came
-capabilities string: 0 bytes in 500 exchanges; with what was sent: NOT THE SAME
-call list: 0 bytes in 500 exchanges; with what was sent: NOT THE SAME
+capabilities string: 0 bytes in 500 exchanges; beside what was sent: NOT THE SAME
+call list: 0 bytes in 500 exchanges; beside what was sent: NOT THE SAME
 NOT EVERYTHING HELD
 ";
     assert_eq!(said, wanted);

@@ -22,7 +22,6 @@ fn meaning(answer: u8) -> String {
         9 => "value above the maximum",
         10 => "not the fragment wanted",
         17 => "profile broken",
-        18 => "not to be declared",
         _ => panic!("the day has no answer {answer}"),
     };
     format!("{answer}, {words}")
@@ -153,7 +152,7 @@ impl Site {
         )
         .unwrap();
         assert_eq!(&buffer[..transfer.offset()], wanted);
-        writeln!(said, "    {} bytes read; with what was written: the same, byte for byte", transfer.offset()).unwrap();
+        writeln!(said, "    {} bytes read; beside what was written: the same, byte for byte", transfer.offset()).unwrap();
     }
 }
 
@@ -171,8 +170,6 @@ fn start(said: &mut String, number: usize, size: usize, seed: u64) -> Site {
     ];
     assert_eq!(answers, [0; 4]);
     writeln!(said, "    brightness (10), contrast (12), input (60), degauss (01): {}", meaning(answers[3])).unwrap();
-    let refused = declare(0xF4, 0, false, 0, 0);
-    writeln!(said, "    code F4, which is the call list's: {}", meaning(refused)).unwrap();
     Site { display, table: [0; TABLE_LIMIT], line: Line { seed, last: vec![] } }
 }
 
@@ -185,10 +182,14 @@ fn write_list(said: &mut String, site: &mut Site, list: &[u8]) {
             messages += 1;
         }
     }
-    writeln!(said, "    {} writes, every third delivered twice: {messages} messages", parts.len()).unwrap();
     let stored = site.display.table_len();
     assert_eq!(&site.table[..stored], list);
-    writeln!(said, "    the display holds {stored} bytes; with the tent's list: the same, byte for byte").unwrap();
+    writeln!(
+        said,
+        "    {} writes, every third delivered twice: {messages} messages; {stored} bytes stored; beside the tent's list: the same, byte for byte",
+        parts.len()
+    )
+    .unwrap();
 }
 
 fn tree(said: &mut String) {
@@ -206,14 +207,14 @@ fn tree(said: &mut String) {
     }
 }
 
-fn dusk(said: &mut String, site: &mut Site) {
+fn dusk(said: &mut String, first: bool, site: &mut Site) {
     let mut m = [0; 38];
     let n = build_save(&mut m).unwrap();
     writeln!(said, "    Save: {}", meaning(site.send(&m[..n]).0)).unwrap();
     let mut sheet = [0; 21];
     let length = profile::write(&site.display.settings, &mut sheet).unwrap();
     writeln!(said, "    the profile has {length} bytes").unwrap();
-    for r in sheet.chunks(7) {
+    for r in sheet.chunks(7).filter(|_| first) {
         let bytes: String = r.iter().map(|b| format!(" {b:02X}")).collect();
         writeln!(said, "     {bytes}   code {:02X}: {}", r[4], u16::from_le_bytes([r[5], r[6]])).unwrap();
     }
@@ -259,7 +260,7 @@ fn day() -> String {
                     if i == 0 {
                         said.push_str("    no. asks at   the line        came   joined   answer\n");
                     }
-                    site.read(&mut said, Text::Table, if i == 0 { 10 } else { 0 }, &list);
+                    site.read(&mut said, Text::Table, if i == 0 { 8 } else { 0 }, &list);
                 }
                 3 => {
                     site.read(&mut said, Text::Capabilities, 0, CAPABILITIES);
@@ -267,7 +268,7 @@ fn day() -> String {
                         tree(&mut said);
                     }
                 }
-                _ => dusk(&mut said, site),
+                _ => dusk(&mut said, i == 0, site),
             }
         }
     }

@@ -216,6 +216,17 @@ fn report(t: Transfer, tally: Tally) {
     show::counted(OUT, b"", tally.repeated, b" repeated\n");
 }
 
+fn sum(a: u64, b: u64) -> u64 {
+    std::num::wrapping_add_u64(a, b)
+}
+
+// Every exchange was accepted or spoiled: what the line left alone was never refused.
+fn all_told(t: Tally, count: u16) -> bool {
+    let lost = sum(t.lost, t.cut);
+    let other = sum(t.flipped, t.repeated);
+    sum(t.accepted, sum(lost, other)) == count as u64
+}
+
 // What was read should be these bytes.
 fn judged(r: Reading, read: &[u8], wanted: &[u8]) -> bool {
     let t = r.transfer;
@@ -224,7 +235,12 @@ fn judged(r: Reading, read: &[u8], wanted: &[u8]) -> bool {
     let same = check::same(wanted, front(read, t.reached.0 as usize));
     show::counted(OUT, b"    ", t.reached.0 as u64, b" bytes read; ");
     show::compared(OUT, b"beside what was written: ", same);
-    if same { state_of(t) == DONE } else { false }
+    if state_of(t) == DONE {
+        if same {
+            return all_told(tally, t.count);
+        }
+    }
+    false
 }
 
 // The site after a transfer.
@@ -236,7 +252,7 @@ fn after(mut s: Site, r: Reading, good: bool) -> Site {
     site::also(s, good)
 }
 
-// A transfer of a text that should come to these bytes.
+// A transfer of a text into the buffer, where it should come to these bytes.
 pub(crate) fn read(
     kind: TextKind,
     s: Site,
@@ -244,21 +260,22 @@ pub(crate) fn read(
     text: &[u8],
     table: &mut [u8],
     wanted: &[u8],
+    buffer: &mut [u8],
 ) -> Site {
-    let mut buffer = [0u8; TABLE_ROOM];
     let mut wire = [0u8; OUTPUT_ROOM];
-    let first = begin(kind, s, shown, &buffer);
-    let r = exchanges(first, text, table, &mut buffer, &mut wire);
-    after(s, r, judged(r, &buffer, wanted))
+    let first = begin(kind, s, shown, buffer);
+    let r = exchanges(first, text, table, buffer, &mut wire);
+    after(s, r, judged(r, buffer, wanted))
 }
 
 pub(crate) fn read_list(number: u64, s: Site, text: &[u8], list: &[u8], table: &mut [u8]) -> Site {
+    let mut buffer = [0u8; TABLE_ROOM];
     if number == 1 {
         show::text(
             OUT,
             b"    no. asks at   the line        came   joined   answer\n",
         );
-        return read(TextKind::Table, s, SHOWN, text, table, list);
+        return read(TextKind::Table, s, SHOWN, text, table, list, &mut buffer);
     }
-    read(TextKind::Table, s, 0, text, table, list)
+    read(TextKind::Table, s, 0, text, table, list, &mut buffer)
 }

@@ -50,6 +50,7 @@ fn below(n: usize, seed: u64) -> usize {
     (seed / 8) as usize % n
 }
 
+// One bit of some byte is turned over.
 fn flip(wire: &mut [u8], n: usize, seed: u64) {
     let at = below(n, seed);
     if at < wire.len() {

@@ -1,11 +1,11 @@
 // A day at the water point, in one process: two displays, each at the end of its own bad line, from the tent's first message to dusk.
-mod dusk;
-mod gate;
+mod closing;
 mod line;
 mod list;
+mod setup;
 mod site;
-mod tent;
-mod volunteer;
+mod transfers;
+mod tree_view;
 
 use display_rules::limits::TABLE_ROOM;
 use site::Site;
@@ -19,7 +19,7 @@ struct Pair {
     two: Site,
 }
 
-// What is done with each display in turn.
+// How many tasks the day has. Each is done with one display, then with the other.
 const TASKS: usize = 5;
 
 // The time of day, and what is done.
@@ -51,11 +51,11 @@ fn heading(task: usize) {
 fn perform(task: usize, number: u64, s: Site, text: &[u8], list: &[u8], table: &mut [u8]) -> Site {
     show::counted(OUT, b"  display ", number, b"\n");
     match task {
-        0 => tent::write_list(s, text, list, table),
-        1 => tent::settings(s, text, table),
-        2 => gate::read_list(number, s, text, list, table),
-        3 => volunteer::read_capabilities(number, s, text, table),
-        _ => dusk::close(s, number, text, table),
+        0 => setup::write_list(s, text, list, table),
+        1 => setup::settings(s, text, table),
+        2 => transfers::read_list(number, s, text, list, table),
+        3 => tree_view::read_capabilities(number, s, text, table),
+        _ => closing::close(s, number, text, table),
     }
 }
 
@@ -70,8 +70,8 @@ fn both(task: usize, p: Pair, text: &[u8], list: &[u8], one: &mut [u8], two: &mu
 
 fn start(text: &[u8]) -> Pair {
     show::text(OUT, b"05:00  the tent starts two displays\n");
-    let one = tent::start(1, text, 32, 26302);
-    let two = tent::start(2, text, 7, 20979);
+    let one = setup::start(1, text, 32, 26302);
+    let two = setup::start(2, text, 7, 20979);
     Pair { one: one, two: two }
 }
 

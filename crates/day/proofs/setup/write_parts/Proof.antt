@@ -1,10 +1,10 @@
--- `day::tent::write_parts` is safe and ends: the table keeps its length, and the writes that are left grow fewer.
+-- `day::setup::write_parts` is safe and ends: the table keeps its length, and the writes that are left grow fewer.
 use Prim.Native.Nat.{_-_}
 use mathlib.Core.Path.{_≡_}
 use lib.ListN.{length}
 use borrow.Author.Needs.{needs}
-use Rattle.day.proofs.tent.write_parts.Statement.{statement}
-use Rattle.day.proofs.tent.write_parts.Tie as tie
+use Rattle.day.proofs.setup.write_parts.Statement.{statement}
+use Rattle.day.proofs.setup.write_parts.Tie as tie
 
 abbrev Inv-loop : tie.InvT-loop
 Inv-loop text list table₀ s₀ k₀ table s k = length table ≡ length table₀

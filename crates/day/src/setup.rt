@@ -1,4 +1,4 @@
-// The tent: it starts the displays, declares their codes, writes the call list, and sets brightness and input.
+// The host of the morning: it starts the displays, declares their codes, writes the call list, and sets brightness and input.
 use crate::OUT;
 use crate::line::Line;
 use crate::list::LIST_SIZE;

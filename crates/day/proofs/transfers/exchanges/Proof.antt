@@ -1,9 +1,9 @@
--- `day::gate::exchanges` is safe and ends: the buffers keep their lengths, and the exchanges that are left grow fewer.
+-- `day::transfers::exchanges` is safe and ends: the buffers keep their lengths, and the exchanges that are left grow fewer.
 use mathlib.Core.Path.{_≡_}
 use lib.ListN.{length}
 use borrow.Author.Needs.{needs}
-use Rattle.day.proofs.gate.exchanges.Statement.{statement}
-use Rattle.day.proofs.gate.exchanges.Tie as tie
+use Rattle.day.proofs.transfers.exchanges.Statement.{statement}
+use Rattle.day.proofs.transfers.exchanges.Tie as tie
 
 abbrev Inv-loop : tie.InvT-loop
 Inv-loop text table₀ buffer₀ wire₀ r₀ left₀ table buffer wire r left = (length table ≡ length table₀) × (length buffer ≡ length buffer₀) × (length wire ≡ length wire₀)

@@ -1,8 +1,8 @@
-// Dusk: the settings are saved, a profile is written and tried, and the list is cleared.
+// The end of the day: the settings are saved, a profile is written and tried, and the list is cleared.
 use crate::OUT;
+use crate::setup;
 use crate::site;
 use crate::site::Site;
-use crate::tent;
 use message::request;
 use message_rules::TO_DISPLAY;
 use message_rules::answer;
@@ -109,7 +109,7 @@ fn damage(s: Site, profile: [u8; PROFILE_ROOM]) -> Site {
 
 // A change, and the profile loaded over it.
 fn restore(s: Site, text: &[u8], table: &mut [u8], profile: &[u8]) -> Site {
-    let a = tent::set(s, text, table, tent::BRIGHTNESS, 20, answer::DONE);
+    let a = setup::set(s, text, table, setup::BRIGHTNESS, 20, answer::DONE);
     let b = load(
         a,
         b"    the profile is loaded: ",
@@ -117,7 +117,7 @@ fn restore(s: Site, text: &[u8], table: &mut [u8], profile: &[u8]) -> Site {
         answer::DONE,
         PROFILE_ROOM,
     );
-    tent::get(b, text, table, tent::BRIGHTNESS, 70)
+    setup::get(b, text, table, setup::BRIGHTNESS, 70)
 }
 
 fn profile(s: Site, number: u64, text: &[u8], table: &mut [u8]) -> Site {
@@ -129,7 +129,7 @@ fn profile(s: Site, number: u64, text: &[u8], table: &mut [u8]) -> Site {
 
 // A Table write at offset 0 without data.
 fn clear(s: Site, text: &[u8], table: &mut [u8]) -> Site {
-    let after = tent::write(s, text, table, 0, b"");
+    let after = setup::write(s, text, table, 0, b"");
     let left = site::stored(after);
     show::counted(
         OUT,

@@ -1,4 +1,4 @@
-// The gate: it reads a text of a display over the line, fragment by fragment, and asks again where the line spoils an exchange.
+// A host reads a text of a display over the line, fragment by fragment, and asks again where the line spoils an exchange.
 use crate::OUT;
 use crate::line;
 use crate::line::Fate;

@@ -25,13 +25,9 @@ const SPACE: u8 = 0x20;
 
 const FIRST_LETTER: u8 = 0x21;
 
-const BEFORE_OPEN: u8 = 0x27;
-
 const OPEN: u8 = 0x28;
 
 const CLOSE: u8 = 0x29;
-
-const BEHIND_CLOSE: u8 = 0x2a;
 
 const LAST_LETTER: u8 = 0x7e;
 
@@ -52,11 +48,16 @@ struct Past {
 fn is_letter(b: u8) -> bool
     ensures { λ r. ⌜ r ≡ isLetter (kindOf b) ⌝ }
 {
-    match b {
-        BEHIND_CLOSE..=LAST_LETTER => true,
-        FIRST_LETTER..=BEFORE_OPEN => true,
-        _ => false,
+    if b < FIRST_LETTER {
+        return false;
     }
+    if b == CLOSE {
+        return false;
+    }
+    if b == OPEN {
+        return false;
+    }
+    b <= LAST_LETTER
 }
 
 // The position past the letters that stand from `start` on.

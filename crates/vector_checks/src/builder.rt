@@ -10,12 +10,12 @@ use message_rules::TO_HOST;
 use message_rules::TextOffset;
 
 // What every byte of an output is before.
-pub const BLANK: u8 = 0xA5;
+pub(crate) const BLANK: u8 = 0xA5;
 
 // The bytes of output that every builder needs, written down once more, and an output with bytes behind every message.
-pub const ROOM: usize = 38;
+pub(crate) const ROOM: usize = 38;
 
-pub const WIDE: usize = 44;
+pub(crate) const WIDE: usize = 44;
 
 fn build_reply(f: Fields, data: &[u8], out: &mut [u8]) -> Built {
     let command = f.0;
@@ -55,7 +55,7 @@ fn blank_from(out: &[u8], at: usize) -> bool {
 }
 
 // Whether building into this blank output gives this answer: 0 with exactly the bytes s, or a refusal; and no other byte changed.
-pub fn builds(f: Fields, data: &[u8], s: &[u8], expected: u8, out: &mut [u8]) -> bool {
+pub(crate) fn builds(f: Fields, data: &[u8], s: &[u8], expected: u8, out: &mut [u8]) -> bool {
     match build(f, data, out) {
         Built::Done(n) => {
             if expected != number::DONE {

@@ -7,7 +7,7 @@ use crate::tally::Tally;
 use crate::vector;
 
 // The bit that a length byte has beside n: none in a reply whose body begins with 4E.
-pub fn form(to_host: bool, n: u8, command: u8) -> u8 {
+pub(crate) fn form(to_host: bool, n: u8, command: u8) -> u8 {
     if to_host && command == 0x4E && n != 0 {
         return 0;
     }

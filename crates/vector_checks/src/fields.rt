@@ -1,3 +1,8 @@
+ghost use mathlib.Core.Path.{_≡_};
+ghost use Prim.Native.Nat.{_+_, _*_, _<_};
+ghost use lib.ListN.{getD};
+ghost use Rattle.vector_checks.specs.Fields.{partOf, gathered};
+
 // The fields of a message: its command number, at most three single bytes and two 16-bit words, each 0 where it has none. Data stand apart.
 pub struct Fields(pub u8, pub u8, pub u8, pub u8, pub u16, pub u16);
 
@@ -24,29 +29,44 @@ pub fn layout(command: u8) -> Shape {
 }
 
 // The bytes of s from `start` to `end`, or none where it has no such part.
-pub fn part(s: &[u8], start: usize, end: usize) -> &[u8] {
-    if start <= end {
-        if end <= s.len() {
-            return &s[start..end];
-        }
+pub fn part(s: &[u8], start: usize, end: usize) -> &[u8]
+    ensures { λ r. ⌜ now r ≡ partOf (now (s .entry)) start end ⌝ }
+{
+    if end < start {
+        return &s[0..0];
     }
-    &s[0..0]
+    if s.len() < end {
+        return &s[0..0];
+    }
+    &s[start..end]
 }
 
 // The byte at an index, or 0 past the end.
-pub fn octet(s: &[u8], at: usize) -> u8 {
+pub fn octet(s: &[u8], at: usize) -> u8
+    ensures { λ r. ⌜ r ≡ getD (now (s .entry)) at 0 ⌝ }
+{
     if at < s.len() {
         return s[at];
     }
     0
 }
 
-pub fn word(high: u8, low: u8) -> u16 {
-    high as u16 * 256 + low as u16
+fn wide(x: u8) -> u16
+    ensures { λ r. ⌜ (r ≡ x) × (r < 256) ⌝ }
+{
+    x as u16
+}
+
+pub fn word(high: u8, low: u8) -> u16
+    ensures { λ r. ⌜ r ≡ high * 256 + low ⌝ }
+{
+    wide(high) * 256 + wide(low)
 }
 
 // The fields from the single bytes and the words of a message, the high byte of each word first.
-pub fn gather(command: u8, b: &[u8], w: &[u8]) -> Fields {
+pub fn gather(command: u8, b: &[u8], w: &[u8]) -> Fields
+    ensures { λ r. ⌜ r ≡ gathered command (now (b .entry)) (now (w .entry)) ⌝ }
+{
     let first = word(octet(w, 0), octet(w, 1));
     let second = word(octet(w, 2), octet(w, 3));
     Fields(
@@ -59,7 +79,7 @@ pub fn gather(command: u8, b: &[u8], w: &[u8]) -> Fields {
     )
 }
 
-pub fn same(f: Fields, g: Fields) -> bool {
+pub(crate) fn same(f: Fields, g: Fields) -> bool {
     if f.0 != g.0 || f.1 != g.1 || f.2 != g.2 {
         return false;
     }

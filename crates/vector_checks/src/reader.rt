@@ -55,7 +55,7 @@ fn read(to_host: bool, s: &[u8]) -> Reading {
 }
 
 // The answer number of a reading.
-pub fn answer(to_host: bool, s: &[u8]) -> u8 {
+pub(crate) fn answer(to_host: bool, s: &[u8]) -> u8 {
     read(to_host, s).0
 }
 
@@ -72,7 +72,7 @@ fn part_is(s: &[u8], at: usize, len: usize, data: &[u8]) -> bool {
 }
 
 // Whether reading these bytes gives this answer, and with answer 0 the message with these fields and data.
-pub fn reads(f: Fields, data: &[u8], s: &[u8], expected: u8) -> bool {
+pub(crate) fn reads(f: Fields, data: &[u8], s: &[u8], expected: u8) -> bool {
     let r = read(fields::layout(f.0).1, s);
     if r.0 != expected {
         return false;

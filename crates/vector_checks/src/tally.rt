@@ -1,8 +1,13 @@
 // How many vectors hold, and how many were tried.
+ghost use mathlib.Core.Path.{_≡_};
+ghost use Rattle.vector_checks.specs.Tally.{counted, joined};
+
 pub struct Tally(pub u32, pub u32);
 
 impl Tally {
-    pub fn count(self, holds: bool) -> Tally {
+    pub fn count(self, holds: bool) -> Tally
+        ensures { λ r. ⌜ r ≡ counted self holds ⌝ }
+    {
         let tried = std::num::wrapping_add_u32(self.1, 1);
         if holds {
             return Tally(std::num::wrapping_add_u32(self.0, 1), tried);
@@ -10,7 +15,9 @@ impl Tally {
         Tally(self.0, tried)
     }
 
-    pub fn join(self, other: Tally) -> Tally {
+    pub fn join(self, other: Tally) -> Tally
+        ensures { λ r. ⌜ r ≡ joined self other ⌝ }
+    {
         let held = std::num::wrapping_add_u32(self.0, other.0);
         Tally(held, std::num::wrapping_add_u32(self.1, other.1))
     }

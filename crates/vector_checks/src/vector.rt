@@ -7,7 +7,7 @@ use crate::reader;
 use crate::tally::Tally;
 
 // The builder's answer to fields whose message is read with this answer: 7 for fields that are not allowed. The null message is built.
-pub fn builder_answer(answer: u8) -> u8 {
+pub(crate) fn builder_answer(answer: u8) -> u8 {
     if answer == number::DONE || answer == number::NULL_MESSAGE {
         return number::DONE;
     }

@@ -1,5 +1,5 @@
 // Judges messages against what document 01 says of them, worked out apart from the message library: a vector's bytes and fields, its output's room, its
-// damaged variants, single fields over every value, and the table of messages whole. A judgement restates the papers in code, so no contract says it again;
+// damaged variants, and the table of messages whole. A judgement restates the papers in code, so no contract says it again;
 // those functions are proved safe and ending, and the others say what they return.
 mod builder;
 pub mod damage;
@@ -8,5 +8,4 @@ pub mod number;
 mod reader;
 pub mod table;
 pub mod tally;
-pub mod values;
 pub mod vector;

@@ -39,10 +39,15 @@ pub fn room(f: Fields, data: &[u8], s: &[u8], answer: u8) -> Tally {
     Tally(0, 0).count(refused).count(built)
 }
 
+// Whether the reader's answer to these bytes is this one.
+pub fn answers(to_host: bool, s: &[u8], answer: u8) -> bool {
+    reader::answer(to_host, s) == answer
+}
+
 // A message of which only the reader's answer is judged, so that it has no fields.
 pub fn reading(to_host: bool, f: &[u8], s: &[u8], answer: u8) -> Tally {
     if f.len() != 0 {
         return Tally(0, 0);
     }
-    Tally(0, 0).count(reader::answer(to_host, s) == answer)
+    Tally(0, 0).count(answers(to_host, s, answer))
 }

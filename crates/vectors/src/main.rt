@@ -2,6 +2,7 @@
 // The form of the input stands at its head, in the file stdin.
 mod line;
 mod setting;
+mod values;
 
 use libc::STDERR_FILENO;
 use libc::STDIN_FILENO;
@@ -11,7 +12,6 @@ use vector_checks::fields;
 use vector_checks::fields::Fields;
 use vector_checks::table;
 use vector_checks::tally::Tally;
-use vector_checks::values;
 use vector_checks::vector;
 
 // One byte more than the longest input.

@@ -1,9 +1,8 @@
 // Document 01's rules for single fields, run over every value of the field.
-use crate::fields::Fields;
-use crate::number;
-use crate::reader;
-use crate::tally::Tally;
-use crate::vector;
+use vector_checks::fields::Fields;
+use vector_checks::number;
+use vector_checks::tally::Tally;
+use vector_checks::vector;
 
 // A Timing reply with this status: its bits 5 to 2 must be 0.
 fn status_holds(status: u8) -> bool {
@@ -43,17 +42,17 @@ fn value_holds(result: u8, kind: u8) -> bool {
 fn empty_holds(last: u8) -> bool {
     let null = [0x6E, 0x80, last];
     let plain = [0x6E, 0x00, last];
-    if reader::answer(true, &plain) != number::WRONG_LENGTH {
+    if !vector::answers(true, &plain, number::WRONG_LENGTH) {
         return false;
     }
     if last == 0xBE {
-        return reader::answer(true, &null) == number::NULL_MESSAGE;
+        return vector::answers(true, &null, number::NULL_MESSAGE);
     }
-    reader::answer(true, &null) == number::WRONG_CHECKSUM
+    vector::answers(true, &null, number::WRONG_CHECKSUM)
 }
 
 // Every last byte of a reply of no body, every status, every result with either type, every type with either result.
-pub fn all() -> Tally {
+pub(crate) fn all() -> Tally {
     let mut sum = Tally(0, 0);
     for field in 0..=255u8 {
         let empty = sum.count(empty_holds(field));

@@ -1,8 +1,8 @@
--- `vector_checks::values::all` is safe and ends. The measure is what is left of the 256 values.
+-- `vectors::values::all` is safe and ends. The measure is what is left of the 256 values.
 use Prim.Native.Nat.{_≤_, _-_}
 use borrow.Author.Needs.{needs}
-use Rattle.vector_checks.proofs.values.all.Statement.{statement}
-use Rattle.vector_checks.proofs.values.all.Tie as tie
+use Rattle.vectors.proofs.values.all.Statement.{statement}
+use Rattle.vectors.proofs.values.all.Tie as tie
 
 abbrev Inv-loop : tie.InvT-loop
 Inv-loop sum₀ field₀ sum field = field ≤ 255

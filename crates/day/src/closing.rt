@@ -3,7 +3,7 @@ use crate::OUT;
 use crate::setup;
 use crate::site;
 use crate::site::Site;
-use message::request;
+use message_builder::request;
 use message_rules::TO_DISPLAY;
 use message_rules::answer;
 use message_rules::limits::OUTPUT_ROOM;

@@ -1,7 +1,7 @@
 // A display at the end of its line.
 use crate::line::Line;
 use display_rules::Display;
-use message::Built;
+use message_builder::Built;
 use message_rules::limits::OUTPUT_ROOM;
 
 // The display, the line to it, its last answer, how many messages it was sent, and whether everything held so far.

@@ -6,14 +6,14 @@ use mathlib.Core.List.{List}
 use Rattle.message_rules.specs.Answer.{done}
 use Rattle.message_rules.specs.Message.{Reading, requests, replies, encode, decode, toDisplay, toHost}
 use Rattle.message_rules.specs.declared.Address.{Address}
-use Rattle.message.specs.Outcome.{RequestMeans, ReplyMeans}
-use Rattle.message.specs.Output.{Builds, admits}
-use Rattle.message.specs.declared.Built.{Built}
-use Rattle.message.specs.declared.Built.the-variants as built
-use Rattle.message.specs.declared.RequestRead.{RequestRead}
-use Rattle.message.specs.declared.RequestRead.the-variants as request
-use Rattle.message.specs.declared.ReplyRead.{ReplyRead}
-use Rattle.message.specs.declared.ReplyRead.the-variants as reply
+use Rattle.message_reader.specs.Outcome.{RequestMeans, ReplyMeans}
+use Rattle.message_builder.specs.Output.{Builds, admits}
+use Rattle.message_builder.specs.declared.Built.{Built}
+use Rattle.message_builder.specs.declared.Built.the-variants as built
+use Rattle.message_reader.specs.declared.RequestRead.{RequestRead}
+use Rattle.message_reader.specs.declared.RequestRead.the-variants as request
+use Rattle.message_reader.specs.declared.ReplyRead.{ReplyRead}
+use Rattle.message_reader.specs.declared.ReplyRead.the-variants as reply
 use Rattle.ddcci.specs.declared.BuiltNumbers.{BuiltNumbers}
 use Rattle.ddcci.specs.declared.request.RequestNumbers.{RequestNumbers}
 use Rattle.ddcci.specs.declared.reply.ReplyNumbers.{ReplyNumbers}

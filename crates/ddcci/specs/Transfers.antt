@@ -31,9 +31,12 @@ abbrev pub stateOf : ℕ → State
 stateOf n = cond (eqb n 0) Running (cond (eqb n 1) Done (cond (eqb n 2) Exhausted Overflowed))
 
 -- a text and its state in one number: 4 more for the table
+abbrev pub firstPhase : TextKind → ℕ
+firstPhase Capabilities = 0
+firstPhase Table = 4
+
 abbrev pub phaseNumber : TextKind → State → ℕ
-phaseNumber Capabilities s = stateNumber s
-phaseNumber Table s = 4 + stateNumber s
+phaseNumber k s = firstPhase k + stateNumber s
 
 -- the text that a number names
 abbrev pub textOf : ℕ → TextNumber

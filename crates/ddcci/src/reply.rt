@@ -4,8 +4,9 @@ ghost use mathlib.Core.Bool.{true};
 ghost use Rattle.message_rules.specs.Message.{replies, toHost, null, value, timingReply, textFragment, tableFragment};
 ghost use Rattle.ddcci.specs.Numbers.{fieldNumbers, fragmentNumbers, replyNumbers, BuildsNumbers, BuildsMessageNumbers, ReadsReply};
 use crate::BuiltNumbers;
-use message::ReplyRead;
-use message::reply;
+use message_builder::reply;
+use message_reader::ReplyRead;
+use message_reader::reply::read_reply;
 use message_rules::TO_HOST;
 use message_rules::TextOffset;
 use message_rules::answer;
@@ -97,7 +98,7 @@ fn reply_numbers(read: ReplyRead) -> ReplyNumbers
 pub extern "C" fn ddcci_read_reply(message: &[u8]) -> ReplyNumbers
     ensures { λ r. ⌜ ReadsReply (now (message .entry)) r ⌝ }
 {
-    reply_numbers(reply::read_reply(TO_HOST, message))
+    reply_numbers(read_reply(TO_HOST, message))
 }
 
 #[no_mangle]

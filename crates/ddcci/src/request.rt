@@ -3,8 +3,9 @@ ghost use mathlib.Core.Path.{_≡_};
 ghost use Rattle.message_rules.specs.Message.{requests, toDisplay, get, set, timing, save, text, tableRead, tableWrite};
 ghost use Rattle.ddcci.specs.Numbers.{requestFields, requestNumbers, BuildsMessageNumbers, ReadsRequest};
 use crate::BuiltNumbers;
-use message::RequestRead;
-use message::request;
+use message_builder::request;
+use message_reader::RequestRead;
+use message_reader::request::read_request;
 use message_rules::TO_DISPLAY;
 use message_rules::TextOffset;
 use message_rules::answer;
@@ -66,7 +67,7 @@ fn request_numbers(read: RequestRead) -> RequestNumbers
 pub extern "C" fn ddcci_read_request(message: &[u8]) -> RequestNumbers
     ensures { λ r. ⌜ ReadsRequest (now (message .entry)) r ⌝ }
 {
-    request_numbers(request::read_request(TO_DISPLAY, message))
+    request_numbers(read_request(TO_DISPLAY, message))
 }
 
 #[no_mangle]

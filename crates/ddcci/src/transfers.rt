@@ -2,7 +2,7 @@
 ghost use mathlib.Core.Path.{_≡_};
 ghost use Prim.Native.Nat.{_<_};
 ghost use lib.ListN.{length};
-ghost use Rattle.ddcci.specs.Transfers.{stateOf, textOf, stateNumber, phaseNumber, transferOf, numbersOf, beginNumbers, requestOutcome, receiveNumbers, receivedNumbers, Requests, Receives};
+ghost use Rattle.ddcci.specs.Transfers.{stateOf, textOf, stateNumber, firstPhase, phaseNumber, transferOf, numbersOf, beginNumbers, requestOutcome, receiveNumbers, receivedNumbers, Requests, Receives};
 ghost use Rattle.transfer_rules.specs.Transfer as rules;
 use crate::BuiltNumbers;
 use message_rules::TextKind;
@@ -52,13 +52,19 @@ fn state_number(state: State) -> u8
     }
 }
 
+fn first_phase(kind: TextKind) -> u8
+    ensures { λ r. ⌜ (r ≡ firstPhase kind) × (r < 5) ⌝ }
+{
+    match kind {
+        TextKind::Capabilities => 0,
+        TextKind::Table => TABLE_PHASES,
+    }
+}
+
 fn phase_number(kind: TextKind, state: State) -> u8
     ensures { λ r. ⌜ r ≡ phaseNumber kind state ⌝ }
 {
-    match kind {
-        TextKind::Capabilities => state_number(state),
-        TextKind::Table => TABLE_PHASES + state_number(state),
-    }
+    first_phase(kind) + state_number(state)
 }
 
 // The text that a number names.

@@ -11,9 +11,9 @@ use borrow.Author.Tests.{eqb-true, le-leb}
 use borrow.Rule.Slice.PartMut.{midOf, postOf, putMid, post-is}
 use Rattle.message_rules.specs.Answer.{done, wrongField}
 use Rattle.message_rules.specs.Limits.{outputRoom, mostFragment}
-use Rattle.message.specs.Output.{over, Builds}
-use Rattle.message.specs.declared.Built.{Built}
-use Rattle.message.specs.declared.Built.the-variants.{Done, Refused}
+use Rattle.message_builder.specs.Output.{over, Builds}
+use Rattle.message_builder.specs.declared.Built.{Built}
+use Rattle.message_builder.specs.declared.Built.the-variants.{Done, Refused}
 use Rattle.codes.specs.Codes.{member}
 use Rattle.settings.specs.Settings.{withPresent, setAnswer, judgeSet, setCode}
 use Rattle.settings.proofs.Answers.{both}

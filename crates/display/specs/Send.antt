@@ -3,9 +3,9 @@ use Prim.Native.Nat.{ℕ}
 use mathlib.Core.Path.{_≡_}
 use mathlib.Core.List.{List}
 use lib.ListN.{length}
-use Rattle.message.specs.Output.{over}
-use Rattle.message.specs.declared.Built.{Built}
-use Rattle.message.specs.declared.Built.the-variants.{Done, Refused}
+use Rattle.message_builder.specs.Output.{over}
+use Rattle.message_builder.specs.declared.Built.{Built}
+use Rattle.message_builder.specs.declared.Built.the-variants.{Done, Refused}
 
 abbrev pub builtLength : Built → ℕ
 builtLength (Done n) = n

@@ -1,10 +1,10 @@
 // What the host does before it reads: it starts the display, declares codes, writes the list, and sets and gets brightness.
 use crate::pipe;
 use crate::pipe::Host;
-use message::Built;
-use message::ReplyRead;
-use message::reply::read_display_reply;
-use message::request;
+use message_builder::Built;
+use message_builder::request;
+use message_reader::ReplyRead;
+use message_reader::reply::read_display_reply;
 use message_rules::TABLE_CODE;
 use message_rules::TO_DISPLAY;
 use message_rules::TextOffset;

@@ -1,5 +1,6 @@
 // The types of DDC/CI messages, the answer numbers and the limits. What they mean stands in specs/, and the theorems in proofs/.
 pub mod answer;
+pub mod fields;
 pub mod limits;
 
 // Which way a message goes: to the display (the papers' board) or to the host (their post).

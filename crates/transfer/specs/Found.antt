@@ -4,11 +4,11 @@ use mathlib.Core.List.{List}
 use lib.ListN.{length}
 use Rattle.message_rules.specs.Answer.{done, notWanted}
 use Rattle.message_rules.specs.Read.{Read, ok, refused}
-use Rattle.message.specs.Outcome.{Meaning, partOf}
-use Rattle.message.specs.declared.Built.{Built}
-use Rattle.message.specs.declared.Built.the-variants as built
-use Rattle.message.specs.declared.ReplyRead.{ReplyRead}
-use Rattle.message.specs.declared.ReplyRead.the-variants as reply
+use Rattle.message_reader.specs.Outcome.{Meaning, partOf}
+use Rattle.message_builder.specs.declared.Built.{Built}
+use Rattle.message_builder.specs.declared.Built.the-variants as built
+use Rattle.message_reader.specs.declared.ReplyRead.{ReplyRead}
+use Rattle.message_reader.specs.declared.ReplyRead.the-variants as reply
 use Rattle.transfer_rules.specs.declared.Requested.{Requested}
 use Rattle.message_rules.specs.declared.TextKind.{TextKind}
 use Rattle.message_rules.specs.declared.TextKind.the-variants.{Capabilities, Table}

@@ -1,13 +1,13 @@
 // The messages of a transfer, by the kind of its text.
 ghost use mathlib.Core.Path.{_≡_};
 ghost use mathlib.Core.Bool.{true};
-ghost use Rattle.message.specs.Output.{Builds};
+ghost use Rattle.message_builder.specs.Output.{Builds};
 ghost use Rattle.transfer_rules.specs.Fragment.{requestMessage, readReply, fragmentOf};
 ghost use Rattle.transfer.specs.Found.{FragmentMeans, ofKind};
-use message::Built;
-use message::ReplyRead;
-use message::reply;
-use message::request;
+use message_builder::Built;
+use message_builder::request;
+use message_reader::ReplyRead;
+use message_reader::reply;
 use message_rules::Position;
 use message_rules::TextKind;
 use message_rules::TextOffset;

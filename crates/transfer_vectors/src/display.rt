@@ -1,9 +1,9 @@
 // A conforming display with fragment lengths of its own choice.
 use crate::line;
-use message::Built;
-use message::RequestRead;
-use message::reply;
-use message::request::read_request;
+use message_builder::Built;
+use message_builder::reply;
+use message_reader::RequestRead;
+use message_reader::request::read_request;
 use message_rules::TO_DISPLAY;
 use message_rules::TO_HOST;
 use message_rules::TextKind;

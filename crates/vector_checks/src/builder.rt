@@ -2,9 +2,9 @@
 use crate::fields;
 use crate::fields::Fields;
 use crate::number;
-use message::Built;
-use message::reply;
-use message::request;
+use message_builder::Built;
+use message_builder::reply;
+use message_builder::request;
 use message_rules::TO_DISPLAY;
 use message_rules::TO_HOST;
 use message_rules::TextOffset;

@@ -2,10 +2,10 @@
 use crate::fields;
 use crate::fields::Fields;
 use crate::number;
-use message::ReplyRead;
-use message::RequestRead;
-use message::reply;
-use message::request;
+use message_reader::ReplyRead;
+use message_reader::RequestRead;
+use message_reader::reply;
+use message_reader::request;
 use message_rules::TO_DISPLAY;
 use message_rules::TO_HOST;
 

@@ -1,4 +1,4 @@
-//! Whole transfers of 1,024 and 4,096 bytes in fragments of 32: asking, and receiving replies that are built beforehand.
+//! Whole transfers of 1,024 and 4,096 bytes in fragments of 32: asking, and receiving replies that are built beforehand. Either side's caller looks at the answer to each request and each reply.
 use crate::measure::{both, line};
 use ddcci::{Message, Reply, State, TextKind, Transfer};
 use oracle::transfer as slow;
@@ -19,7 +19,7 @@ fn ours(replies: &[Message], buffer: &mut [u8]) -> u16 {
     let mut transfer = Transfer::begin(TextKind::Table, buffer, 65_535).unwrap();
     let mut out = [0; 38];
     for reply in replies {
-        black_box(transfer.build(&mut out)).unwrap();
+        transfer.build(black_box(&mut out)).unwrap();
         transfer.receive(black_box(reply)).unwrap();
     }
     assert_eq!(transfer.state(), State::Done);
@@ -40,7 +40,7 @@ fn theirs(replies: &[Message], buffer: &mut [u8]) -> usize {
     let (_, mut transfer) = slow::Transfer::begin(Text::Table, buffer.len(), 65_535);
     let mut out = [0; 38];
     for reply in replies {
-        black_box(ask(&transfer, &mut out));
+        assert_eq!(ask(&transfer, black_box(&mut out)).0, 0);
         assert_eq!(offer(&mut transfer, buffer, black_box(reply)), 0);
     }
     assert_eq!(transfer.state(), slow::State::Done);

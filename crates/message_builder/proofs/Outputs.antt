@@ -1,0 +1,100 @@
+-- What a builder leaves in its output.
+-- Assumes nothing.
+use mathlib.Core.Path.{_≡_, refl, sym, ap, ap₂, _∙_, subst}
+use Prim.Native.Nat.{ℕ, suc, _+_, _-_, _/_, _%_, _≤_, _<_}
+use mathlib.Core.List.{List, [], _∷_, _++_, append-assoc, append-nil}
+use mathlib.Core.Bool.{Bool, true, false, cond, _&&_}
+use lib.Dec.{leb}
+use native.Mathlib.Omega.{arith}
+use lib.ListN.{length, getD, take, drop, set, length-append, length-drop, drop-of-length-le}
+use lib.Seq.{take-at, drop-at, take-all, take-length, drop-drop, drop-cons, set-at, append-snoc}
+use borrow.Rule.Slice.PartMut.{midOf, postOf, putMid, post-is}
+use borrow.Author.Tests.{le-leb, lt-leb}
+use Rattle.checksum.specs.Xor.{xorAll}
+use Rattle.message_rules.specs.Limits.{outputRoom, mostFragment}
+use Rattle.message_rules.specs.Frame.{plain, closed, frame}
+use Rattle.message_rules.specs.declared.Address.{Address}
+use Rattle.message_rules.specs.declared.Direction.the-variants.{Reply}
+use Rattle.message_builder.specs.Output.{over, Builds, refusal, fragment}
+use Rattle.message_builder.specs.declared.Built.{Built}
+use Rattle.message_builder.specs.declared.Built.the-variants.{Done, Refused}
+
+-- one run put behind another
+pub over-next : (out x y : List ℕ) → take (length x) (over x out) ++ over y (drop (length x) (over x out)) ≡ over (x ++ y) out
+over-next out x y =
+    ap₂ (λ (p q : List ℕ). p ++ (y ++ drop (length y) q)) (take-at x (drop (length x) out) (length x) refl) (drop-at x (drop (length x) out) (length x) refl)
+    ∙ sym (append-assoc x y _)
+    ∙ ap (λ (q : List ℕ). (x ++ y) ++ q) (drop-drop (length y) (length x) out ∙ ap (λ (n : ℕ). drop n out) (sym (length-append x y)))
+
+-- the same where the second run goes into the part of the output behind the first
+part-next : (out x y p ys : List ℕ) (at end : ℕ) → p ≡ over x out → at ≡ length x → at ≤ length p → end ≡ length p → ys ≡ over y (midOf at (end - at) p) → putMid at (end - at) p ys ≡ over (x ++ y) out
+part-next out x y p ys at end e a h l f =
+    let whole : midOf at (end - at) p ≡ drop at p = take-all (end - at) (drop at p) (omega (arith, length-drop at p)) in
+    let none : postOf at (end - at) p ≡ [] = post-is at end p (omega arith) ∙ drop-of-length-le p {i = end} (omega arith) in
+    ap₂ (λ (q t : List ℕ). take at p ++ (q ++ t)) (f ∙ ap (over y) whole) none
+    ∙ ap (λ (q : List ℕ). take at p ++ q) (append-nil (over y (drop at p)))
+    ∙ ap₂ (λ (n : ℕ) (q : List ℕ). take n q ++ over y (drop n q)) a e
+    ∙ over-next out x y
+
+-- the checksum put behind it all
+pub over-closed : (seed : ℕ) (p out : List ℕ) (n : ℕ) → length p ≡ n → n < length out → set (over p out) n (xorAll seed (take n (over p out))) ≡ over (closed seed p) out
+over-closed seed p out n l h =
+    let v : ℕ = xorAll seed p in
+    let end : suc n ≡ length (closed seed p) = omega (arith, length-append p (v ∷ []), l) in
+    ap (λ (q : List ℕ). set (over p out) n (xorAll seed q)) (take-at p (drop (length p) out) n l)
+    ∙ ap (λ (k : ℕ). set (p ++ drop k out) n v) l
+    ∙ ap (λ (q : List ℕ). set (p ++ q) n v) (drop-cons out n 0 h)
+    ∙ set-at p (getD out n 0) (drop (suc n) out) v n l
+    ∙ sym (append-snoc p v (drop (suc n) out))
+    ∙ ap (λ (k : ℕ). closed seed p ++ drop k out) end
+
+-- ---- a builder's three answers
+
+module _ (allowed : Bool) (s out : List ℕ) where
+  pub builds-none : length out < outputRoom → Builds allowed s out out (Refused 1)
+  builds-none h = record { answers = rw (lt-leb outputRoom (length out) h); leaves = rw (lt-leb outputRoom (length out) h) }
+
+  pub builds-refused : allowed ≡ false → (r : Built) → r ≡ refusal (length out) → Builds allowed s out out r
+  builds-refused e r q = record { answers = q ∙ rw e; leaves = rw e (go (leb outputRoom (length out))) }
+    where
+      go : (t : Bool) → out ≡ cond t out out
+      go true = refl
+      go false = refl
+
+  pub builds-done : outputRoom ≤ length out → allowed ≡ true → (n : ℕ) (o : List ℕ) → n ≡ length s → o ≡ over s out → Builds allowed s out o (Done n)
+  builds-done h e n o p q =
+      record {
+        answers = ap Done p ∙ rw (le-leb outputRoom (length out) h, e);
+        leaves = q ∙ rw (le-leb outputRoom (length out) h, e);
+      }
+
+pub builds-as : {t u : Bool} {s s′ out o : List ℕ} {r : Built} → t ≡ u → s ≡ s′ → Builds t s out o r → Builds u s′ out o r
+builds-as {t} {u} {s} {s′} {out} {o} {r} e f b = subst (λ (x : Bool). Builds x s′ out o r) e (subst (λ (x : List ℕ). Builds t x out o r) f b)
+
+-- a fragment in its frame: the row of its command number has the other form of length byte
+pub fragment-as : (a : Address) (number o : ℕ) (s : List ℕ) {out after : List ℕ} {r : Built} → plain Reply (number ∷ o / 256 ∷ o % 256 ∷ s) ≡ false
+    → Builds (leb (length s) mostFragment) (fragment a number o s) out after r → Builds (leb (length s) mostFragment && true) (frame Reply a (number ∷ o / 256 ∷ o % 256 ∷ s)) out after r
+unfolding frame
+fragment-as a number o s p b =
+    let e : 0x83 + length s ≡ 0x80 + suc (suc (suc (length s))) = omega arith in
+    builds-as (unit (leb (length s) mostFragment)) (rw (p, e)) b
+  where
+    unit : (t : Bool) → t ≡ t && true
+    unit true = refl
+    unit false = refl
+
+-- what `build` leaves: the head, the data in the part behind it, and the checksum behind both
+pub built : (seed at more end r : ℕ) (x y out p ys o : List ℕ) → length x + length y < length out
+    → at ≡ length x → p ≡ take (length x) x ++ drop (length x) out → end ≡ length p
+    → more ≡ length y → ys ≡ take (length y) y ++ drop (length y) (midOf at (end - at) p)
+    → r ≡ at + more + 1 → o ≡ set (putMid at (end - at) p ys) (at + more) (xorAll seed (take (at + more) (putMid at (end - at) p ys)))
+    → (r ≡ length (closed seed (x ++ y))) × (o ≡ over (closed seed (x ++ y)) out)
+built seed at more end r x y out p ys o h a e l m f q g =
+    let e1 : p ≡ over x out = e ∙ ap (λ (t : List ℕ). t ++ drop (length x) out) (take-length x) in
+    let f1 : ys ≡ over y (midOf at (end - at) p) = f ∙ ap (λ (t : List ℕ). t ++ drop (length y) (midOf at (end - at) p)) (take-length y) in
+    let n : length (x ++ y) ≡ at + more = omega (arith, length-append x y) in
+    let w : length p ≡ length out = ap length e1 ∙ simp (length-append, length-drop) (omega arith) in
+    let put : putMid at (end - at) p ys ≡ over (x ++ y) out = part-next out x y p ys at end e1 a (omega arith) l f1 in (
+      omega (arith, length-append (x ++ y) (xorAll seed (x ++ y) ∷ [])),
+      g ∙ ap (λ (t : List ℕ). set t (at + more) (xorAll seed (take (at + more) t))) put ∙ over-closed seed (x ++ y) out (at + more) n (omega arith),
+    )

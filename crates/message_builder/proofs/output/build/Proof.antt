@@ -1,0 +1,65 @@
+-- `message_builder::output::build` meets its contract.
+-- Assumes nothing.
+use mathlib.Core.Path.{refl}
+use lib.ListN.{length}
+use mathlib.Core.Bool.{true}
+use mathlib.Core.List.{_++_}
+use native.Mathlib.Omega.{arith}
+use Rattle.message_rules.specs.Frame.{closed}
+use Rattle.message_builder.proofs.Outputs.{builds-none, builds-done, built}
+use borrow.Author.Needs.{needs}
+use Rattle.message_builder.proofs.output.build.Statement.{statement}
+use Rattle.message_builder.proofs.output.build.Tie as tie
+
+returns : tie.Need-returns
+returns c = let a = c .before .before .before .before .args in builds-none true (closed (a .seed) (a .head .now ++ a .«data» .now)) (a .out .now) (c .if1 .taken)
+
+copy-requires : tie.Need-copy-requires
+copy-requires c κs = search needs
+
+sub-copy : tie.Need-sub-copy
+sub-copy c = search needs
+
+part-copy-start : tie.Need-part-copy-start
+part-copy-start c = search needs
+
+part-copy-end : tie.Need-part-copy-end
+part-copy-end c = search needs
+
+copy-requires-2 : tie.Need-copy-requires-2
+copy-requires-2 c κs = search needs
+
+add-close : tie.Need-add-close
+add-close c = search needs
+
+close-requires : tie.Need-close-requires
+close-requires c κs = search needs
+
+same-length : tie.Need-same-length
+same-length c = search needs
+
+returns-2 : tie.Need-returns-2
+returns-2 c =
+    let b = c .before .before .before .before .before .before .before .before .before .before in
+    let a = b .before .before .before .before .before .before .args in
+    let head = b .copy in
+    let more = c .before .before .before .before .before .before .copy2 in
+    let f = c .before .before .close in
+    let e = built (a .seed) (head .result) (more .result) (length (head .last .1 .0)) (f .result) (a .head .now) (a .«data» .now) (a .out .now) (head .last .1 .0) (more .last .1 .0) (f .last .1 .1 .0)
+    (omega arith) (head .ensures .0) (head .ensures .1) refl (more .ensures .0) (more .ensures .1) (f .ensures .0) (f .ensures .1) in
+    builds-done true (closed (a .seed) (a .head .now ++ a .«data» .now)) (a .out .now) (omega arith) refl (f .result) (f .last .1 .1 .0) (e .0) (e .1)
+
+pub build-spec : {M : Type 1} → statement M
+build-spec =
+    tie.close
+    (tie.spec
+    returns
+    copy-requires
+    sub-copy
+    part-copy-start
+    part-copy-end
+    copy-requires-2
+    add-close
+    close-requires
+    same-length
+    returns-2)

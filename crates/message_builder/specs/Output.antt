@@ -1,0 +1,49 @@
+-- What a builder answers, and what it leaves in the output: the same for every message of either direction.
+use Prim.Native.Nat.{ℕ, _+_, _/_, _%_}
+use mathlib.Core.Path.{_≡_}
+use mathlib.Core.Bool.{Bool, true, false, cond, _&&_}
+use mathlib.Core.List.{List, [], _∷_, _++_}
+use lib.ListN.{length, drop}
+use lib.Dec.{leb, eqb}
+use Rattle.message_rules.specs.Answer.{wrongSize, wrongField}
+use Rattle.message_rules.specs.Limits.{outputRoom}
+use Rattle.message_rules.specs.Layout.{layoutOf, rule}
+use Rattle.message_rules.specs.Body.{Body}
+use Rattle.message_rules.specs.Frame.{closed}
+use Rattle.message_rules.specs.Message.{Reading, encode}
+use Rattle.message_rules.specs.declared.Address.{Address}
+use Rattle.message_builder.specs.declared.Built.{Built}
+use Rattle.message_builder.specs.declared.Built.the-variants.{Done, Refused}
+
+-- s at the start of the output; "Bytes of an output beyond the reply length stay."
+abbrev pub over : List ℕ → List ℕ → List ℕ
+over s out = s ++ drop (length s) out
+
+-- 1 for an output that is too small, then 7 where the message is not allowed, else the message's length
+abbrev pub builtAnswer : Bool → List ℕ → List ℕ → Built
+builtAnswer allowed s before = cond (leb outputRoom (length before)) (cond allowed (Done (length s)) (Refused wrongField)) (Refused wrongSize)
+
+-- a refusal leaves the output as it was
+abbrev pub builtOutput : Bool → List ℕ → List ℕ → List ℕ
+builtOutput allowed s before = cond (leb outputRoom (length before)) (cond allowed (over s before) before) before
+
+-- what a builder of these bytes answers and leaves
+pub record Builds (allowed : Bool) (s before after : List ℕ) (r : Built) : Type 0 where
+  pub answers : r ≡ builtAnswer allowed s before
+  pub leaves : after ≡ builtOutput allowed s before
+
+-- 7: "builder given such a field". What can be wrong with a body that has its row's fields
+abbrev pub admits : Body → Bool
+admits b = leb (length (b .rest)) (layoutOf (b .kind) .most) && rule (b .kind) (b .bytes)
+
+-- a builder of the message m
+abbrev pub BuildsMessage : {M : Type 0} → Reading M → Address → M → List ℕ → List ℕ → Built → Type 0
+BuildsMessage t a m before after r = Builds (admits (t .bodyFor m)) (encode t a m) before after r
+
+-- the answer to a message that is not allowed
+abbrev pub refusal : ℕ → Built
+refusal room = cond (leb outputRoom room) (Refused wrongField) (Refused wrongSize)
+
+-- the bytes of a fragment, by its command number
+abbrev pub fragment : Address → ℕ → ℕ → List ℕ → List ℕ
+fragment a number offset s = closed (a .seed) (a .first ∷ (0x83 + length s) ∷ number ∷ offset / 256 ∷ offset % 256 ∷ s)

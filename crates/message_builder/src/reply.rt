@@ -1,0 +1,111 @@
+// Replies: the messages to the host.
+ghost use mathlib.Core.Path.{_≡_};
+ghost use mathlib.Core.Bool.{true};
+ghost use Prim.Native.Nat.{_≤_};
+ghost use lib.Dec.{leb};
+ghost use lib.ListN.{length};
+ghost use Rattle.message_rules.specs.Limits.{mostFragment};
+ghost use Rattle.message_rules.specs.Message.{replies, value, timingReply, textFragment, tableFragment, null, toHost};
+ghost use Rattle.message_builder.specs.Output.{Builds, BuildsMessage, fragment};
+use crate::Built;
+use crate::output;
+use message_rules::Address;
+use message_rules::TextOffset;
+use message_rules::answer;
+use message_rules::fields::status_allowed;
+use message_rules::fields::value_allowed;
+use message_rules::limits;
+
+pub fn build_value(
+    a: Address,
+    result: u8,
+    code: u8,
+    kind: u8,
+    max: u16,
+    present: u16,
+    out: &mut [u8],
+) -> Built
+    ensures { λ r. ⌜ BuildsMessage replies a (value result code kind max present) (now (out .entry)) (now (out .exit)) r ⌝ }
+{
+    if value_allowed(result, kind) {
+        let head = [
+            a.first,
+            0x88,
+            0x02,
+            result,
+            code,
+            kind,
+            output::high(max),
+            output::low(max),
+            output::high(present),
+            output::low(present),
+        ];
+        return output::build(a.seed, &head, b"", out);
+    }
+    output::refuse(out)
+}
+
+pub fn build_timing_reply(
+    a: Address,
+    status: u8,
+    horizontal: u16,
+    vertical: u16,
+    out: &mut [u8],
+) -> Built
+    ensures { λ r. ⌜ BuildsMessage replies a (timingReply status horizontal vertical) (now (out .entry)) (now (out .exit)) r ⌝ }
+{
+    if status_allowed(status) {
+        let head = [
+            a.first,
+            0x06,
+            0x4E,
+            status,
+            output::high(horizontal),
+            output::low(horizontal),
+            output::high(vertical),
+            output::low(vertical),
+        ];
+        return output::build(a.seed, &head, b"", out);
+    }
+    output::refuse(out)
+}
+
+pub fn build_text_fragment(a: Address, offset: TextOffset, data: &[u8], out: &mut [u8]) -> Built
+    ensures { λ r. ⌜ BuildsMessage replies a (textFragment (offset .0) (now («data» .entry))) (now (out .entry)) (now (out .exit)) r ⌝ }
+{
+    build_fragment(a, 0xE3, offset, data, out)
+}
+
+pub fn build_table_fragment(a: Address, offset: TextOffset, data: &[u8], out: &mut [u8]) -> Built
+    ensures { λ r. ⌜ BuildsMessage replies a (tableFragment (offset .0) (now («data» .entry))) (now (out .entry)) (now (out .exit)) r ⌝ }
+{
+    build_fragment(a, 0xE4, offset, data, out)
+}
+
+// A fragment of either text, by its command number.
+fn build_fragment(a: Address, number: u8, offset: TextOffset, data: &[u8], out: &mut [u8]) -> Built
+    ensures { λ r. ⌜ Builds (leb (length (now («data» .entry))) mostFragment) (fragment a number (offset .0) (now («data» .entry))) (now (out .entry)) (now (out .exit)) r ⌝ }
+{
+    if limits::MOST_FRAGMENT < data.len() {
+        return output::refuse(out);
+    }
+    let length = (0x83 + data.len()) as u8;
+    let head = [
+        a.first,
+        length,
+        number,
+        output::high(offset.0),
+        output::low(offset.0),
+    ];
+    output::build(a.seed, &head, data, out)
+}
+
+// The display's null message is a fixed byte string, 6E 80 BE.
+pub fn build_null(out: &mut [u8]) -> Built
+    ensures { λ r. ⌜ Builds true (null toHost) (now (out .entry)) (now (out .exit)) r ⌝ }
+{
+    if out.len() < limits::OUTPUT_ROOM {
+        return Built::Refused(answer::WRONG_SIZE);
+    }
+    Built::Done(bytes::copy(b"\x6E\x80\xBE", out))
+}

@@ -1,0 +1,95 @@
+// Requests: the messages to the display.
+ghost use mathlib.Core.Path.{_≡_};
+ghost use Rattle.message_rules.specs.Message.{requests, get, set, timing, save, text, tableRead, tableWrite};
+ghost use Rattle.message_builder.specs.Output.{BuildsMessage};
+use crate::Built;
+use crate::output;
+use message_rules::Address;
+use message_rules::TextOffset;
+use message_rules::limits;
+
+pub fn build_get(a: Address, code: u8, out: &mut [u8]) -> Built
+    ensures { λ r. ⌜ BuildsMessage requests a (get code) (now (out .entry)) (now (out .exit)) r ⌝ }
+{
+    let head = [a.first, 0x82, 0x01, code];
+    output::build(a.seed, &head, b"", out)
+}
+
+pub fn build_set(a: Address, code: u8, value: u16, out: &mut [u8]) -> Built
+    ensures { λ r. ⌜ BuildsMessage requests a (set code value) (now (out .entry)) (now (out .exit)) r ⌝ }
+{
+    let head = [
+        a.first,
+        0x84,
+        0x03,
+        code,
+        output::high(value),
+        output::low(value),
+    ];
+    output::build(a.seed, &head, b"", out)
+}
+
+pub fn build_timing(a: Address, out: &mut [u8]) -> Built
+    ensures { λ r. ⌜ BuildsMessage requests a timing (now (out .entry)) (now (out .exit)) r ⌝ }
+{
+    let head = [a.first, 0x81, 0x07];
+    output::build(a.seed, &head, b"", out)
+}
+
+pub fn build_save(a: Address, out: &mut [u8]) -> Built
+    ensures { λ r. ⌜ BuildsMessage requests a save (now (out .entry)) (now (out .exit)) r ⌝ }
+{
+    let head = [a.first, 0x81, 0x0C];
+    output::build(a.seed, &head, b"", out)
+}
+
+pub fn build_text(a: Address, offset: TextOffset, out: &mut [u8]) -> Built
+    ensures { λ r. ⌜ BuildsMessage requests a (text (offset .0)) (now (out .entry)) (now (out .exit)) r ⌝ }
+{
+    let head = [
+        a.first,
+        0x83,
+        0xF3,
+        output::high(offset.0),
+        output::low(offset.0),
+    ];
+    output::build(a.seed, &head, b"", out)
+}
+
+pub fn build_table_read(a: Address, code: u8, offset: TextOffset, out: &mut [u8]) -> Built
+    ensures { λ r. ⌜ BuildsMessage requests a (tableRead code (offset .0)) (now (out .entry)) (now (out .exit)) r ⌝ }
+{
+    let head = [
+        a.first,
+        0x84,
+        0xE2,
+        code,
+        output::high(offset.0),
+        output::low(offset.0),
+    ];
+    output::build(a.seed, &head, b"", out)
+}
+
+pub fn build_table_write(
+    a: Address,
+    code: u8,
+    offset: TextOffset,
+    data: &[u8],
+    out: &mut [u8],
+) -> Built
+    ensures { λ r. ⌜ BuildsMessage requests a (tableWrite code (offset .0) (now («data» .entry))) (now (out .entry)) (now (out .exit)) r ⌝ }
+{
+    if limits::MOST_WRITTEN < data.len() {
+        return output::refuse(out);
+    }
+    let length = (0x84 + data.len()) as u8;
+    let head = [
+        a.first,
+        length,
+        0xE7,
+        code,
+        output::high(offset.0),
+        output::low(offset.0),
+    ];
+    output::build(a.seed, &head, data, out)
+}

@@ -1,0 +1,5 @@
+pub mod Fields
+pub mod Parts
+pub mod Readings
+pub mod Rows
+pub mod Starts

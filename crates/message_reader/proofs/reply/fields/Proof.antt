@@ -1,0 +1,147 @@
+-- `message_reader::reply::fields` meets its contract: an arm for each kind, its fields at their positions.
+-- Assumes nothing.
+use mathlib.Core.Path.{_≡_, refl, sym, _∙_}
+use native.Mathlib.Omega.{arith}
+use Rattle.message_reader.proofs.Readings.{least-reply, reply-read}
+use borrow.Author.Needs.{needs}
+use Rattle.message_reader.proofs.reply.fields.Statement.{statement}
+use Rattle.message_reader.proofs.reply.fields.Tie as tie
+
+enum-told : tie.Need-enum-told
+enum-told c = search needs
+
+word-at-requires : tie.Need-word-at-requires
+word-at-requires c κs = omega (arith, least-reply (c .enum-told .given .1) (c .before .before .before .pre .3))
+
+word-at-requires-2 : tie.Need-word-at-requires-2
+word-at-requires-2 c κs = omega (arith, least-reply (c .before .enum-told .given .1) (c .before .before .before .before .pre .3))
+
+shared-slice-read-value-allowed : tie.Need-shared-slice-read-value-allowed
+shared-slice-read-value-allowed c = search needs
+
+shared-slice-read-value-allowed-2 : tie.Need-shared-slice-read-value-allowed-2
+shared-slice-read-value-allowed-2 c = omega (arith, least-reply (c .before .before .before .before .enum-told .given .1) (c .before .before .before .before .before .before .before .pre .3))
+
+value-allowed-requires : tie.Need-value-allowed-requires
+value-allowed-requires c κs = search needs
+
+shared-slice-read-t18 : tie.Need-shared-slice-read-t18
+shared-slice-read-t18 c = search needs
+
+shared-slice-read-t20 : tie.Need-shared-slice-read-t20
+shared-slice-read-t20 c = omega (arith, least-reply (c .before .before .before .before .before .before .before .before .enum-told .given .1) (c .before .before .before .before .before .before .before .before .before .before .before .pre .3))
+
+shared-slice-read-t22 : tie.Need-shared-slice-read-t22
+shared-slice-read-t22 c = omega (arith, least-reply (c .before .before .before .before .before .before .before .before .before .enum-told .given .1) (c .before .before .before .before .before .before .before .before .before .before .before .before .pre .3))
+
+returns : tie.Need-returns
+returns c =
+    let a = c .before .before .before .before .before .before .before .before .before .before .before .before .args in
+    let p = c .before .before .before .before .before .before .before .before .before .before .before .before .pre in
+    reply-read (a .s .now) (p .2) (p .1) (p .3) (c .before .before .before .before .before .before .before .before .before .enum-told .given .1) (rw (sym (c .before .before .before .before .value-allowed .ensures) ∙ c .before .before .before .if1 .taken, c .before .before .before .before .before .before .before .before .word-at .ensures, c .before .before .before .before .before .before .before .word-at2 .ensures))
+
+enum-told-2 : tie.Need-enum-told-2
+enum-told-2 c = search needs
+
+word-at-requires-3 : tie.Need-word-at-requires-3
+word-at-requires-3 c κs = omega (arith, least-reply (c .enum-told2 .given .1) (c .before .before .before .pre .3))
+
+word-at-requires-4 : tie.Need-word-at-requires-4
+word-at-requires-4 c κs = omega (arith, least-reply (c .before .enum-told2 .given .1) (c .before .before .before .before .pre .3))
+
+shared-slice-read-status-allowed : tie.Need-shared-slice-read-status-allowed
+shared-slice-read-status-allowed c = search needs
+
+status-allowed-requires : tie.Need-status-allowed-requires
+status-allowed-requires c κs = search needs
+
+shared-slice-read-t27 : tie.Need-shared-slice-read-t27
+shared-slice-read-t27 c = search needs
+
+returns-2 : tie.Need-returns-2
+returns-2 c =
+    let a = c .before .before .before .before .before .before .before .before .before .args in
+    let p = c .before .before .before .before .before .before .before .before .before .pre in
+    reply-read (a .s .now) (p .2) (p .1) (p .3) (c .before .before .before .before .before .before .enum-told2 .given .1) (rw (sym (c .before .before .status-allowed .ensures) ∙ c .before .if2 .taken, c .before .before .before .before .before .word-at3 .ensures, c .before .before .before .before .word-at4 .ensures))
+
+enum-told-3 : tie.Need-enum-told-3
+enum-told-3 c = search needs
+
+word-at-requires-5 : tie.Need-word-at-requires-5
+word-at-requires-5 c κs = omega (arith, least-reply (c .enum-told3 .given .1) (c .before .before .before .pre .3))
+
+body-length-requires : tie.Need-body-length-requires
+body-length-requires c κs = search needs
+
+sub-len : tie.Need-sub-len
+sub-len c = omega (arith, least-reply (c .before .before .enum-told3 .given .1) (c .before .before .before .before .before .pre .3), c .body-length .ensures .0)
+
+enum-told-4 : tie.Need-enum-told-4
+enum-told-4 c = search needs
+
+word-at-requires-6 : tie.Need-word-at-requires-6
+word-at-requires-6 c κs = omega (arith, least-reply (c .enum-told4 .given .1) (c .before .before .before .pre .3))
+
+body-length-requires-2 : tie.Need-body-length-requires-2
+body-length-requires-2 c κs = search needs
+
+sub-len-2 : tie.Need-sub-len-2
+sub-len-2 c = omega (arith, least-reply (c .before .before .enum-told4 .given .1) (c .before .before .before .before .before .pre .3), c .body-length2 .ensures .0)
+
+returns-3 : tie.Need-returns-3
+returns-3 c =
+    let a = c .before .before .before .before .before .before .before .before .before .args in
+    let p = c .before .before .before .before .before .before .before .before .before .pre in
+    reply-read (a .s .now) (p .2) (p .1) (p .3) (c .before .before .before .before .before .before .enum-told .given .1) (rw (sym (c .before .value-allowed .ensures) ∙ c .if1 .left))
+
+returns-4 : tie.Need-returns-4
+returns-4 c =
+    let a = c .before .before .before .before .before .before .before .before .args in
+    let p = c .before .before .before .before .before .before .before .before .pre in
+    reply-read (a .s .now) (p .2) (p .1) (p .3) (c .before .before .before .before .before .enum-told2 .given .1) (rw (sym (c .before .status-allowed .ensures) ∙ c .if2 .left))
+
+returns-5 : tie.Need-returns-5
+returns-5 c =
+    let a = c .before .before .before .before .before .args in
+    let p = c .before .before .before .before .before .pre in
+    reply-read (a .s .now) (p .2) (p .1) (p .3) (c .before .before .enum-told3 .given .1) (rw (c .before .word-at5 .ensures, c .body-length .ensures .0))
+
+returns-6 : tie.Need-returns-6
+returns-6 c =
+    let a = c .before .before .before .before .before .args in
+    let p = c .before .before .before .before .before .pre in
+    reply-read (a .s .now) (p .2) (p .1) (p .3) (c .before .before .enum-told4 .given .1) (rw (c .before .word-at6 .ensures, c .body-length2 .ensures .0))
+
+pub fields-spec : {M : Type 1} → statement M
+fields-spec =
+    tie.close
+    (tie.spec
+    enum-told
+    word-at-requires
+    word-at-requires-2
+    shared-slice-read-value-allowed
+    shared-slice-read-value-allowed-2
+    value-allowed-requires
+    shared-slice-read-t18
+    shared-slice-read-t20
+    shared-slice-read-t22
+    returns
+    enum-told-2
+    word-at-requires-3
+    word-at-requires-4
+    shared-slice-read-status-allowed
+    status-allowed-requires
+    shared-slice-read-t27
+    returns-2
+    enum-told-3
+    word-at-requires-5
+    body-length-requires
+    sub-len
+    enum-told-4
+    word-at-requires-6
+    body-length-requires-2
+    sub-len-2
+    returns-3
+    returns-4
+    returns-5
+    returns-6)

@@ -1,0 +1,36 @@
+-- `message_reader::reply::read_display_reply` meets its contract: what begins with the fixed string is the null message.
+-- Assumes nothing.
+use mathlib.Core.Path.{sym, _∙_}
+use Rattle.message_reader.proofs.Starts.{null-answer}
+use borrow.Author.Needs.{needs}
+use Rattle.message_reader.proofs.reply.read_display_reply.Statement.{statement}
+use Rattle.message_reader.proofs.reply.read_display_reply.Tie as tie
+
+slice-aggregate-starts-with : tie.Need-slice-aggregate-starts-with
+slice-aggregate-starts-with c = search needs
+
+starts-with-requires : tie.Need-starts-with-requires
+starts-with-requires c κs = search needs
+
+returns : tie.Need-returns
+returns c = record { means = sym (null-answer (c .before .before .before .before .args .s .now) (sym (c .before .starts-with .ensures) ∙ c .if1 .taken)); inside = tt }
+
+judge-requires : tie.Need-judge-requires
+judge-requires c κs = search needs
+
+judged-reply-requires : tie.Need-judged-reply-requires
+judged-reply-requires c κs = search needs
+
+returns-2 : tie.Need-returns-2
+returns-2 c = search needs
+
+pub read-display-reply-spec : {M : Type 1} → statement M
+read-display-reply-spec =
+    tie.close
+    (tie.spec
+    slice-aggregate-starts-with
+    starts-with-requires
+    returns
+    judge-requires
+    judged-reply-requires
+    returns-2)

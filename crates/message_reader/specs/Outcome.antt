@@ -1,0 +1,83 @@
+-- What the readers' results say of the slice that was read.
+use Prim.Native.Nat.{ℕ, _+_, _-_, _≤_, _<_}
+use mathlib.Core.Path.{_≡_}
+use mathlib.Core.List.{List}
+use lib.ListN.{length, take, drop}
+use Rattle.message_rules.specs.Read.{Read, ok, refused}
+use Rattle.message_rules.specs.Row as row
+use Rattle.message_rules.specs.Layout.{layoutOf, least}
+use Rattle.message_rules.specs.Frame.{bodyLength}
+use Rattle.message_rules.specs.Message.{decode, replies, Request, get, set, timing, save, text, tableRead, tableWrite, Reply, value, timingReply, textFragment, tableFragment}
+use Rattle.message_rules.specs.declared.Address.{Address}
+use Rattle.message_rules.specs.declared.Position.{Position}
+use Rattle.message_reader.specs.declared.RequestRead.{RequestRead}
+use Rattle.message_reader.specs.declared.RequestRead.the-variants as requestRead
+use Rattle.message_reader.specs.declared.ReplyRead.{ReplyRead}
+use Rattle.message_reader.specs.declared.ReplyRead.the-variants as replyRead
+use Rattle.message_reader.specs.declared.reply.ReplyJudged.{ReplyJudged}
+use Rattle.message_reader.specs.declared.reply.ReplyJudged.the-variants as judged
+use Rattle.message_reader.specs.Parts.{bodyIn}
+
+-- the n bytes from a position of the slice on
+abbrev pub partOf : List ℕ → Position → ℕ → List ℕ
+partOf s at n = take n (drop (at .0) s)
+
+-- the message, or the number of the refusal, that a result stands for
+abbrev pub requestIn : List ℕ → RequestRead → Read Request
+requestIn s (requestRead.Get c) = ok (get c)
+requestIn s (requestRead.Set c v) = ok (set c v)
+requestIn s requestRead.Timing = ok timing
+requestIn s requestRead.Save = ok save
+requestIn s (requestRead.Text o) = ok (text (o .0))
+requestIn s (requestRead.TableRead c o) = ok (tableRead c (o .0))
+requestIn s (requestRead.TableWrite c o at n) = ok (tableWrite c (o .0) (partOf s at n))
+requestIn s (requestRead.Refused k) = refused k
+
+abbrev pub replyIn : List ℕ → ReplyRead → Read Reply
+replyIn s (replyRead.Value r c t m p) = ok (value r c t m p)
+replyIn s (replyRead.Timing st h v) = ok (timingReply st h v)
+replyIn s (replyRead.TextFragment o at n) = ok (textFragment (o .0) (partOf s at n))
+replyIn s (replyRead.TableFragment o at n) = ok (tableFragment (o .0) (partOf s at n))
+replyIn s (replyRead.Refused k) = refused k
+
+-- where the data of a Table write stand, behind 51, length byte, E7, code and offset; and those of a fragment, which has no code
+abbrev pub writtenAt : ℕ
+writtenAt = 6
+
+abbrev pub fragmentAt : ℕ
+fragmentAt = 5
+
+-- the data that a result names stand there, and lie in the slice
+abbrev pub RequestInside : List ℕ → RequestRead → Type 0
+RequestInside s (requestRead.Get c) = Unit {0}
+RequestInside s (requestRead.Set c v) = Unit {0}
+RequestInside s requestRead.Timing = Unit {0}
+RequestInside s requestRead.Save = Unit {0}
+RequestInside s (requestRead.Text o) = Unit {0}
+RequestInside s (requestRead.TableRead c o) = Unit {0}
+RequestInside s (requestRead.TableWrite c o at n) = (at .0 ≡ writtenAt) × (at .0 + n ≤ length s)
+RequestInside s (requestRead.Refused k) = Unit {0}
+
+abbrev pub ReplyInside : List ℕ → ReplyRead → Type 0
+ReplyInside s (replyRead.Value r c t m p) = Unit {0}
+ReplyInside s (replyRead.Timing st h v) = Unit {0}
+ReplyInside s (replyRead.TextFragment o at n) = (at .0 ≡ fragmentAt) × (at .0 + n ≤ length s)
+ReplyInside s (replyRead.TableFragment o at n) = (at .0 ≡ fragmentAt) × (at .0 + n ≤ length s)
+ReplyInside s (replyRead.Refused k) = Unit {0}
+
+-- a reader's result r stands for x, and what it names of the slice is in it
+pub record Meaning {M R : Type 0} (of : List ℕ → R → Read M) (In : List ℕ → R → Type 0) (s : List ℕ) (r : R) (x : Read M) : Type 0 where
+  pub means : of s r ≡ x
+  pub inside : In s r
+
+abbrev pub RequestMeans : List ℕ → RequestRead → Read Request → Type 0
+RequestMeans = Meaning requestIn RequestInside
+
+abbrev pub ReplyMeans : List ℕ → ReplyRead → Read Reply → Type 0
+ReplyMeans = Meaning replyIn ReplyInside
+
+-- the tests of a reply, but those of its fields, refuse it, or leave a body of a known kind with all its fields to be read
+abbrev pub ReplyJudges : Address → List ℕ → ReplyJudged → Type 0
+ReplyJudges a s (judged.Known c) =
+    ((1 < length s) × (bodyLength s + 3 ≤ length s) × (0 < bodyLength s) × (least (layoutOf (row.Reply c)) ≤ bodyLength s - 1)) × (decode replies a s ≡ bodyIn replies (row.Reply c) s)
+ReplyJudges a s (judged.Refused k) = decode replies a s ≡ refused k

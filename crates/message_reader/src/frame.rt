@@ -1,0 +1,136 @@
+// The frame of a message: first byte, length byte and checksum, for either direction and any pair of address bytes.
+ghost use mathlib.Core.Path.{_≡_};
+ghost use mathlib.Core.List.{_∷_};
+ghost use Prim.Native.Nat.{_+_, _≤_, _<_};
+ghost use lib.ListN.{length, getD};
+ghost use Rattle.message_rules.specs.Body.{word};
+ghost use Rattle.message_rules.specs.Frame.{bodyLength, fits, lengthByte};
+ghost use Rattle.message_rules.specs.Layout.{longest};
+ghost use Rattle.message_reader.specs.Parts.{headAnswer, tailAnswer, lengthRight, bodyAnswer};
+use crate::table::Shape;
+use message_rules::Address;
+use message_rules::Direction;
+use message_rules::answer;
+use message_rules::limits;
+
+pub(crate) fn wide(x: u8) -> usize
+    ensures { λ r. ⌜ (r ≡ x) × (r < 256) ⌝ }
+{
+    x as usize
+}
+
+fn wide16(x: u8) -> u16
+    ensures { λ r. ⌜ (r ≡ x) × (r < 256) ⌝ }
+{
+    x as u16
+}
+
+// The 16-bit word at a position, the high byte first.
+pub(crate) fn word_at(s: &[u8], at: usize) -> u16
+    requires { ⌜ at + 1 < length (now s) ⌝ }
+    ensures { λ r. ⌜ r ≡ word (now (s .entry)) at ⌝ }
+{
+    wide16(s[at]) * 256 + wide16(s[at + 1])
+}
+
+// The length of the body by the length byte, in either form.
+pub(crate) fn body_length(s: &[u8]) -> usize
+    requires { ⌜ 1 < length (now s) ⌝ }
+    ensures { λ r. ⌜ (r ≡ bodyLength (now (s .entry))) × (r < 128) ⌝ }
+{
+    wide(s[1]) % 128
+}
+
+fn length_byte(plain: bool, n: usize) -> usize
+    requires { ⌜ n < 128 ⌝ }
+    ensures { λ r. ⌜ r ≡ lengthByte plain n ⌝ }
+{
+    if plain { n } else { 128 + n }
+}
+
+fn longest_body(direction: Direction) -> usize
+    ensures { λ r. ⌜ r ≡ longest direction ⌝ }
+{
+    match direction {
+        Direction::Request => limits::LONGEST_REQUEST,
+        Direction::Reply => limits::LONGEST_REPLY,
+    }
+}
+
+// A request is the whole slice; behind a reply anything may follow.
+fn fits_slice(direction: Direction, n: usize, len: usize) -> bool
+    ensures { λ r. ⌜ r ≡ fits direction n len ⌝ }
+{
+    match direction {
+        Direction::Request => n == len,
+        Direction::Reply => n <= len,
+    }
+}
+
+// The tests before the command number is looked at: 2, 3, and 4 for a slice that does not agree with its length byte. 0 if none fails.
+pub(crate) fn head_answer(direction: Direction, a: Address, s: &[u8]) -> u8
+    ensures { λ r. ⌜ r ≡ headAnswer direction a (now (s .entry)) ⌝ }
+{
+    if s.len() < 3 {
+        return answer::TOO_SHORT;
+    }
+    let first = a.first;
+    if s[0] != first {
+        return answer::WRONG_FIRST_BYTE;
+    }
+    let n = body_length(s);
+    let longest = longest_body(direction);
+    if longest < n {
+        return answer::WRONG_LENGTH;
+    }
+    if fits_slice(direction, n + 3, s.len()) {
+        return answer::DONE;
+    }
+    answer::WRONG_LENGTH
+}
+
+// The tests of the frame that are left: 4 for the other form of length byte, then 5. 0 if none fails. The last byte is compared with the
+// checksum of those in front of it: a sum that is only compared with 0 is not taken several bytes at a time in the compiled code.
+pub(crate) fn tail_answer(a: Address, plain: bool, s: &[u8]) -> u8
+    requires { ⌜ (1 < length (now s)) × (bodyLength (now s) + 3 ≤ length (now s)) ⌝ }
+    ensures { λ r. ⌜ r ≡ tailAnswer a plain (now (s .entry)) ⌝ }
+{
+    let n = body_length(s);
+    if wide(s[1]) != length_byte(plain, n) {
+        return answer::WRONG_LENGTH;
+    }
+    let seed = a.seed;
+    if checksum::checksum(seed, &s[0..n + 2]) != s[n + 2] {
+        return answer::WRONG_CHECKSUM;
+    }
+    answer::DONE
+}
+
+// Whether a body of this shape may have the length that its slice gives it.
+fn length_right(shape: Shape, s: &[u8]) -> bool
+    requires { ⌜ (1 < length (now s)) × (0 < bodyLength (now s)) ⌝ }
+    ensures { λ r. ⌜ r ≡ lengthRight shape (now (s .entry)) ⌝ }
+{
+    let behind = body_length(s) - 1;
+    if behind < shape.0 {
+        return false;
+    }
+    if shape.1 < behind - shape.0 {
+        return false;
+    }
+    true
+}
+
+// The answer to a body where the frame is right: that of its row, or 7 for a wrong length. 0 if its fields can be read.
+pub(crate) fn body_answer(refusal: u8, shape: Shape, s: &[u8]) -> u8
+    requires { ⌜ (1 < length (now s)) × (refusal ≡ 0 → 0 < bodyLength (now s)) ⌝ }
+    ensures { λ r. ⌜ r ≡ bodyAnswer refusal shape (now (s .entry)) ⌝ }
+{
+    if refusal != answer::DONE {
+        return refusal;
+    }
+    if length_right(shape, s) {
+        return answer::DONE;
+    }
+    answer::WRONG_FIELD
+}

@@ -1,0 +1,19 @@
+// What document 01 asks of the single bytes of a message, for readers and builders alike: specs/Layout.antt's `replyRule`.
+ghost use mathlib.Core.Path.{_≡_};
+ghost use mathlib.Core.Bool.{_&&_};
+ghost use Prim.Native.Nat.{_/_, _%_};
+ghost use lib.Dec.{eqb, ltb};
+
+// A Value's result and type are 0 or 1.
+pub fn value_allowed(result: u8, kind: u8) -> bool
+    ensures { λ r. ⌜ r ≡ ltb result 2 && ltb kind 2 ⌝ }
+{
+    if result < 2 { kind < 2 } else { false }
+}
+
+// A timing's status has bits 5 to 2 zero.
+pub fn status_allowed(status: u8) -> bool
+    ensures { λ r. ⌜ r ≡ eqb (status / 4 % 16) 0 ⌝ }
+{
+    status / 4 % 16 == 0
+}

@@ -6,6 +6,7 @@ ghost use Rattle.ddcci.specs.Numbers.{fieldNumbers, fragmentNumbers, rep
 use crate::BuiltNumbers;
 use message_builder::reply;
 use message_reader::ReplyRead;
+use message_reader::reply::is_null;
 use message_reader::reply::read_reply;
 use message_rules::TO_HOST;
 use message_rules::TextOffset;
@@ -94,10 +95,14 @@ fn reply_numbers(read: ReplyRead) -> ReplyNumbers
     }
 }
 
+// Not by `read_display_reply`, which does the same: a reader that only one export uses is inlined into it.
 #[no_mangle]
 pub extern "C" fn ddcci_read_reply(message: &[u8]) -> ReplyNumbers
     ensures { λ r. ⌜ ReadsReply (now (message .entry)) r ⌝ }
 {
+    if is_null(message) {
+        return reply_numbers(ReplyRead::Refused(answer::NULL_MESSAGE));
+    }
     reply_numbers(read_reply(TO_HOST, message))
 }
 

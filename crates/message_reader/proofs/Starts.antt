@@ -16,7 +16,7 @@ use Rattle.message_rules.specs.Read.{refused}
 use Rattle.message_rules.specs.Message.{null, toHost, replies, decode}
 use Rattle.message_rules.proofs.Order.{null-read}
 use Rattle.message_rules.proofs.Tests.{and-true}
-use Rattle.message_reader.specs.Start.{startsWith}
+use Rattle.message_reader.specs.Start.{startsWith, nullBytes}
 
 and-false : (b : Bool) → b && false ≡ false
 and-false true = refl
@@ -45,6 +45,6 @@ starts (x ∷ p) (y ∷ s) e =
     ap₂ (λ (a : ℕ) (l : List ℕ). a ∷ l) (sym (eqb-true x y (t .0))) (starts p s (t .1))
 
 -- what begins with the null message is read as the null message
-pub null-answer : (s : List ℕ) → startsWith (0x6E ∷ 0x80 ∷ 0xBE ∷ []) s ≡ true → decode replies toHost s ≡ refused 12
+pub null-answer : (s : List ℕ) → startsWith nullBytes s ≡ true → decode replies toHost s ≡ refused 12
 unfolding frame plain xorAll
-null-answer s e = ap (decode replies toHost) (starts (0x6E ∷ 0x80 ∷ 0xBE ∷ []) s e) ∙ null-read .there toHost (drop 3 s)
+null-answer s e = ap (decode replies toHost) (starts nullBytes s e) ∙ null-read .there toHost (drop 3 s)

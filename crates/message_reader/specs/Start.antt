@@ -9,3 +9,7 @@ unfoldable pub startsWith : List ℕ → List ℕ → Bool
 startsWith [] s = true
 startsWith (x ∷ p) [] = false
 startsWith (x ∷ p) (y ∷ s) = eqb x y && startsWith p s
+
+-- "The null message is always the three bytes 6E 80 BE"
+abbrev pub nullBytes : List ℕ
+nullBytes = 0x6E ∷ 0x80 ∷ 0xBE ∷ []

@@ -9,7 +9,7 @@ ghost use Rattle.message_rules.specs.Message.{decode, replies, toHost};
 ghost use Rattle.message_rules.specs.Row as row;
 ghost use Rattle.message_reader.specs.Outcome.{ReplyMeans, ReplyJudges};
 ghost use Rattle.message_reader.specs.Parts.{bodyIn};
-ghost use Rattle.message_reader.specs.Start.{startsWith};
+ghost use Rattle.message_reader.specs.Start.{startsWith, nullBytes};
 ghost use Rattle.message_reader.specs.Table.{ReplyRows, found};
 ghost use Rattle.message_rules.specs.declared.Direction.the-variants.{Reply};
 use crate::ReplyRead;
@@ -136,11 +136,18 @@ fn starts_with(p: &[u8], s: &[u8]) -> bool
     true
 }
 
-// Reads a reply of the display. The null message is compared as the fixed byte string that it is.
+// Whether a reply is the display's null message, which is a fixed byte string.
+pub fn is_null(s: &[u8]) -> bool
+    ensures { λ r. ⌜ r ≡ startsWith nullBytes (now (s .entry)) ⌝ }
+{
+    starts_with(b"\x6E\x80\xBE", s)
+}
+
+// Reads a reply of the display, the null message by its bytes.
 pub fn read_display_reply(s: &[u8]) -> ReplyRead
     ensures { λ r. ⌜ ReplyMeans (now (s .entry)) r (decode replies toHost (now (s .entry))) ⌝ }
 {
-    if starts_with(b"\x6E\x80\xBE", s) {
+    if is_null(s) {
         return ReplyRead::Refused(answer::NULL_MESSAGE);
     }
     let judged = judge(TO_HOST, s);

@@ -6,14 +6,11 @@ use borrow.Author.Needs.{needs}
 use Rattle.message_reader.proofs.reply.read_display_reply.Statement.{statement}
 use Rattle.message_reader.proofs.reply.read_display_reply.Tie as tie
 
-slice-aggregate-starts-with : tie.Need-slice-aggregate-starts-with
-slice-aggregate-starts-with c = search needs
-
-starts-with-requires : tie.Need-starts-with-requires
-starts-with-requires c κs = search needs
+is-null-requires : tie.Need-is-null-requires
+is-null-requires c κs = search needs
 
 returns : tie.Need-returns
-returns c = record { means = sym (null-answer (c .before .before .before .before .args .s .now) (sym (c .before .starts-with .ensures) ∙ c .if1 .taken)); inside = tt }
+returns c = record { means = sym (null-answer (c .before .before .before .args .s .now) (sym (c .before .is-null .ensures) ∙ c .if1 .taken)); inside = tt }
 
 judge-requires : tie.Need-judge-requires
 judge-requires c κs = search needs
@@ -28,8 +25,7 @@ pub read-display-reply-spec : {M : Type 1} → statement M
 read-display-reply-spec =
     tie.close
     (tie.spec
-    slice-aggregate-starts-with
-    starts-with-requires
+    is-null-requires
     returns
     judge-requires
     judged-reply-requires

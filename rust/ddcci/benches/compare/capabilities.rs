@@ -1,4 +1,4 @@
-//! Reading capabilities strings of 300, 600 and 4,096 bytes, beside a one-pass reader.
+//! Reading capabilities strings of 300, 600 and 4,096 bytes, beside two one-pass readers into the same lent buffers: the oracle's, which is tuned, and a plain one.
 use crate::measure::{both, line};
 use std::hint::black_box;
 
@@ -35,14 +35,6 @@ pub fn text(length: usize) -> Vec<u8> {
     text
 }
 
-/// A node as one writes it.
-struct Node {
-    length: u16,
-    group: bool,
-    _start: u16,
-    _parent: u16,
-}
-
 #[derive(Clone, Copy)]
 enum State {
     Before,
@@ -52,48 +44,54 @@ enum State {
     After,
 }
 
-/// A reader as one writes it: one loop over the bytes, a state, and the nodes in a vector.
+/// A reader as one writes it: one loop over the bytes, a state, a stack of the open groups, and the nodes in the lent buffers. Unlike ours it leaves nodes behind where it refuses.
 #[inline(never)]
-fn idiomatic(text: &[u8]) -> Result<Vec<Node>, (u8, usize)> {
-    let mut nodes: Vec<Node> = Vec::new();
-    let mut open: Vec<u16> = Vec::new();
+fn plain(text: &[u8], lent: &mut Lent) -> Result<usize, (u8, usize)> {
+    let mut count = 0;
+    let mut open = [65535u16; 8];
+    let mut depth = 0;
     let mut state = State::Before;
     for (at, &byte) in text.iter().enumerate() {
         state = match (state, byte) {
             (State::Before, b'(') => {
-                open.push(65535);
+                depth = 1;
                 State::Free
             }
             (State::Word | State::Gap, b'(') => {
-                if open.len() == 8 {
+                if depth == open.len() {
                     return Err((15, at));
                 }
-                open.push(nodes.len() as u16 - 1);
-                nodes.last_mut().unwrap().group = true;
+                open[depth] = count as u16 - 1;
+                depth += 1;
+                lent.groups[count - 1] = 1;
                 State::Free
             }
             (State::Free | State::Word | State::Gap, b')') => {
-                open.pop();
-                if open.is_empty() { State::After } else { State::Free }
+                depth -= 1;
+                if depth == 0 { State::After } else { State::Free }
             }
             (State::Free, b' ') => State::Free,
             (State::Word | State::Gap, b' ') => State::Gap,
             (State::Word, 0x21..=0x7E) => {
-                nodes.last_mut().unwrap().length += 1;
+                lent.lengths[count - 1] += 1;
                 State::Word
             }
             (State::Free | State::Gap, 0x21..=0x7E) => {
-                if nodes.len() == ROOM {
+                if count == ROOM {
                     return Err((14, at));
                 }
-                nodes.push(Node { length: 1, group: false, _start: at as u16, _parent: *open.last().unwrap() });
+                lent.starts[count] = at as u16;
+                lent.lengths[count] = 1;
+                lent.parents[count] = open[depth - 1];
+                lent.groups[count] = 0;
+                count += 1;
                 State::Word
             }
             _ => return Err((13, at)),
         };
     }
     match state {
-        State::After => Ok(nodes),
+        State::After => Ok(count),
         _ => Err((13, text.len())),
     }
 }
@@ -109,12 +107,13 @@ pub fn run() {
         );
         line(&format!("capabilities string of {} bytes", text.len()), times);
         let nodes = ddcci::read_into(&text, &mut a.starts, &mut a.lengths, &mut a.parents, &mut a.groups).unwrap();
-        assert_eq!(idiomatic(&text).unwrap().len(), nodes);
+        assert_eq!(plain(&text, &mut b).unwrap(), nodes);
+        assert_eq!((a.starts, a.lengths, a.parents, a.groups), (b.starts, b.lengths, b.parents, b.groups));
         let times = both(
             2_000_000 / length,
             || ddcci::read_into(black_box(&text), &mut a.starts, &mut a.lengths, &mut a.parents, &mut a.groups),
-            || idiomatic(black_box(&text)),
+            || plain(black_box(&text), &mut b),
         );
-        line("  beside a reader with a state and a vector", times);
+        line("  beside a plain one-pass reader", times);
     }
 }

@@ -27,7 +27,7 @@ pub row-from : {R : Type 0} {of : R → Finding} {shape : R → Shape} {f : Find
 row-from {of = of} {shape} {f} r q e h = subst (λ (x : _). Stands of shape f x) (sym e) h
 
 -- of a command number
-module _ (d : Direction) {R : Type 0} {of : R → Finding} {shape : R → Shape} {r : R} (k : ℕ) where
+module _ (d : Direction) {R : Type 0} (of : R → Finding) (shape : R → Shape) {r : R} (k : ℕ) where
   pub listed-row : (j : ℕ) → k ≡ j → Stands of shape (findingOf (rowOf d j)) r → Stands of shape (findingOf (rowOf d k)) r
   listed-row j e h = row-as (findingOf (rowOf d k)) (findingOf (rowOf d j)) (ap (λ (n : ℕ). findingOf (rowOf d n)) e) h
 

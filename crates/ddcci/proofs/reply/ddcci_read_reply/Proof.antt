@@ -17,7 +17,7 @@ returns : tie.Need-returns
 returns c = record {
   read = Refused 12;
   means = record { means = sym (null-answer (c .before .before .before .before .args .message .now) (sym (c .before .before .is-null .ensures) ∙ c .before .if1 .taken)); inside = tt };
-  numbers = c .reply-numbers .ensures
+  numbers = c .reply-numbers .ensures;
 }
 
 read-reply-requires : tie.Need-read-reply-requires

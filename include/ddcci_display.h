@@ -37,9 +37,9 @@ typedef struct {
     uint64_t momentary[4];
     uint64_t continuous[4];
     uint16_t maximum[256];
-    uint16_t present[256];
     uint16_t saved[256];
     ddcci_display_timing timing;
+    uint16_t present[256];
 } ddcci_display_settings;
 
 /* A text's length, and the offset and the length of the fragment that was sent last. */

@@ -2,7 +2,6 @@
 use Prim.Native.Nat.{ℕ}
 use mathlib.Core.Path.{_≡_}
 use mathlib.Core.List.{List}
-use Rattle.message_rules.specs.Answer.{done}
 use Rattle.message_rules.specs.declared.TextKind.{TextKind}
 use Rattle.message_rules.specs.declared.TextKind.the-variants.{Capabilities, Table}
 use Rattle.display_rules.specs.State.{startingCursor}
@@ -32,9 +31,6 @@ numbers d k n f = record { display = d; answer = k; length = n; offset = sentCur
 
 abbrev pub steppedNumbers : Stepped → DisplayStepped
 steppedNumbers r = numbers (r .display) (r .answer) (r .length) (r .found)
-
-abbrev pub silentNumbers : Display → DisplayStepped
-silentNumbers d = numbers d done 0 Nothing
 
 -- a step's outcome: what is returned, and both buffers afterwards
 pub record Steps (o : Outcome) (r : DisplayStepped) (t b : List ℕ) : Type 0 where

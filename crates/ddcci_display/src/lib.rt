@@ -1,19 +1,17 @@
 // The display for Rust and C: its state is a struct of numbers and arrays by value, and all else goes by slices. Thin over the proved functions, refusing like them.
 ghost use mathlib.Core.Path.{_≡_};
 ghost use lib.ListN.{length};
-ghost use Rattle.display_rules.specs.State.{startingCursor, start, declare};
+ghost use Rattle.message_rules.specs.Answer.{done};
+ghost use Rattle.display_rules.specs.State.{start, declare, withCursor};
 ghost use Rattle.display_rules.specs.Step.{step};
-ghost use Rattle.display.specs.Changes.{finished, foundIn};
-ghost use Rattle.ddcci_display.specs.Numbers.{sentText, sentCursor, silentNumbers, steppedNumbers, Steps};
+ghost use Rattle.display_rules.specs.declared.Found.the-variants.{Nothing, Fragment};
+ghost use Rattle.ddcci_display.specs.Numbers.{textNumber, numbers, Steps};
 use display::changes;
 use display::changes::Pending;
-use display::changes::Reaction;
-use display::changes::TextChange;
 use display_rules::Changed;
 use display_rules::Display;
 use display_rules::FragmentCursor;
 use message_rules::TextKind;
-use message_rules::TextOffset;
 use message_rules::answer;
 use settings::Declaration;
 use settings::Timing;
@@ -51,75 +49,49 @@ pub extern "C" fn ddcci_display_declare(d: Display, declaration: Declaration) ->
     display::declare(d, declaration)
 }
 
-fn sent_text(change: TextChange) -> u8
-    ensures { λ r. ⌜ r ≡ sentText (foundIn change) ⌝ }
+fn text_number(kind: TextKind) -> u8
+    ensures { λ r. ⌜ r ≡ textNumber kind ⌝ }
 {
-    match change {
-        TextChange::Kept => 0,
-        TextChange::Moved(kind, cursor) => match kind {
-            TextKind::Capabilities => CAPABILITIES,
-            TextKind::Table => TABLE,
-        },
-        TextChange::Written(length) => 0,
+    match kind {
+        TextKind::Capabilities => CAPABILITIES,
+        TextKind::Table => TABLE,
     }
 }
 
-fn no_cursor() -> FragmentCursor
-    ensures { λ r. ⌜ r ≡ startingCursor ⌝ }
-{
-    FragmentCursor {
-        offset: TextOffset(0),
-        length: 0,
-    }
-}
-
-fn sent_cursor(change: TextChange) -> FragmentCursor
-    ensures { λ r. ⌜ r ≡ sentCursor (foundIn change) ⌝ }
-{
-    match change {
-        TextChange::Kept => no_cursor(),
-        TextChange::Moved(kind, cursor) => cursor,
-        TextChange::Written(length) => no_cursor(),
-    }
-}
-
-// Answer 0 and no reply.
-fn silent(d: Display) -> DisplayStepped
-    ensures { λ r. ⌜ r ≡ silentNumbers d ⌝ }
+// A display and an answer, with a reply of so many bytes and no fragment.
+fn plain(d: Display, answer: u8, length: usize) -> DisplayStepped
+    ensures { λ r. ⌜ r ≡ numbers d answer length Nothing ⌝ }
 {
     DisplayStepped {
         display: d,
-        answer: answer::DONE,
-        length: 0,
+        answer: answer,
+        length: length,
         offset: 0,
         count: 0,
         text: 0,
     }
 }
 
-// The fragment's numbers are found before the display is passed on, which is then copied once.
-fn answered(d: Display, reaction: Reaction) -> DisplayStepped
-    ensures { λ r. ⌜ r ≡ steppedNumbers (finished d reaction) ⌝ }
+// A fragment sent. Its numbers are found before the display is passed on, which is then copied once.
+fn moved(d: Display, kind: TextKind, cursor: FragmentCursor, length: usize) -> DisplayStepped
+    ensures { λ r. ⌜ r ≡ numbers (withCursor kind d cursor) done length (Fragment kind cursor) ⌝ }
 {
-    let change = reaction.change;
-    let text = sent_text(change);
-    let cursor = sent_cursor(change);
+    let text = text_number(kind);
     let at = cursor.offset;
     let offset = at.0 as usize;
     let count = cursor.length as usize;
-    let stepped = changes::finish(d, reaction);
-    let display = stepped.display;
+    let display = changes::with_cursor(d, kind, cursor);
     DisplayStepped {
         display: display,
-        answer: stepped.answer,
-        length: stepped.length,
+        answer: answer::DONE,
+        length: length,
         offset: offset,
         count: count,
         text: text,
     }
 }
 
-// One message to the display. What is pending is carried out here and not by `changes::carry_out`, with a return for each case: the display is copied once more otherwise.
+// One message to the display. What is pending is carried out here and not by `changes::carry_out`, with a return for each case: the display is then copied once in each.
 #[no_mangle]
 pub extern "C" fn ddcci_display_step(
     d: Display,
@@ -133,18 +105,25 @@ pub extern "C" fn ddcci_display_step(
     let pending = display::prepare(d, text, table, message, out);
     match pending {
         Pending::Store(code, value) => {
-            let i = code as usize;
-            let mut settings = d.settings;
-            settings.present[i] = value;
-            let mut after = d;
-            after.settings = settings;
-            return silent(after);
+            return plain(changes::stored(d, code, value), answer::DONE, 0);
         }
         Pending::Save => {
-            return silent(changes::saved(d));
+            return plain(changes::saved(d), answer::DONE, 0);
         }
-        Pending::Texts(reaction) => {
-            return answered(d, reaction);
+        Pending::Shown(length) => {
+            return plain(d, answer::DONE, length);
+        }
+        Pending::Told(answer, length) => {
+            return plain(d, answer, length);
+        }
+        Pending::Moved(kind, cursor, length) => {
+            return moved(d, kind, cursor, length);
+        }
+        Pending::Written(length) => {
+            return plain(changes::written(d, length), answer::DONE, 0);
+        }
+        Pending::Refused(answer, length) => {
+            return plain(d, answer, length);
         }
     }
 }

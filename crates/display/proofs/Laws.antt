@@ -22,15 +22,11 @@ use Rattle.display_rules.specs.Turn.{accepted, refusal, noReply, setTurn}
 use Rattle.display_rules.specs.Fragments.{lesser, nextCursor, foundBytes}
 use Rattle.display_rules.specs.Table.{written}
 use Rattle.message_rules.specs.declared.TextKind.{TextKind}
-use Rattle.message_rules.specs.declared.TextKind.the-variants.{Capabilities, Table}
 use Rattle.display_rules.specs.declared.Display.{Display}
 use Rattle.display_rules.specs.declared.TextState.{TextState}
 use Rattle.display_rules.specs.declared.Found.the-variants.{Fragment}
 use Rattle.display_rules.proofs.Tests.{lesser-left, lesser-right}
-use Rattle.display.specs.Changes.{withTexts, capabilitiesAfter, tableAfter}
 use Rattle.display.specs.Send.{builtLength, Sent}
-use Rattle.display.specs.declared.changes.TextChange.{TextChange}
-use Rattle.display.specs.declared.changes.TextChange.the-variants.{Kept, Moved, Written}
 
 -- ---- builders
 
@@ -97,14 +93,6 @@ pub part-length : (from n : ℕ) → from + n - from ≡ n
 part-length from n = omega arith
 
 -- ---- what becomes of the display
-
--- the states of the two texts after a change, and all else as it was
-pub texts-after : (d : Display) (x : TextChange)
-    → _≡_ {A = Display} (record { settings = d .settings; capabilities = capabilitiesAfter (d .capabilities) x; table = tableAfter (d .table) x; size = d .size }) (withTexts d x)
-texts-after d Kept = refl
-texts-after d (Moved Capabilities c) = refl
-texts-after d (Moved Table c) = refl
-texts-after d (Written n) = refl
 
 -- a Set whose value is stored, and any other
 pub set-stored : (d : Display) (table : List ℕ) (c value : ℕ) → judgeSet (d .settings) c value .stored ≡ true

@@ -1,8 +1,9 @@
-// What a step does to the display itself. A message is judged and answered first, with small results; the display, which is large, is then passed on once.
+// What a step does to the display itself. A message is judged and answered first, with a small result; the display, which is large, is then passed on once.
 ghost use mathlib.Core.Path.{_≡_};
+ghost use Rattle.message_rules.specs.Answer.{done};
 ghost use Rattle.settings.specs.Settings.{withPresent, saveAll};
-ghost use Rattle.display_rules.specs.State.{withSettings};
-ghost use Rattle.display.specs.Changes.{capabilitiesAfter, tableAfter, foundIn, finished, silent, stepped};
+ghost use Rattle.display_rules.specs.State.{unsent, withSettings, withTable, withCursor};
+ghost use Rattle.display.specs.Changes.{kept, moved, stepped};
 use crate::table;
 use display_rules::Display;
 use display_rules::Found;
@@ -12,106 +13,40 @@ use display_rules::TextState;
 use message_rules::TextKind;
 use message_rules::answer;
 
-// How the states of the two texts change: not at all; a fragment of one was sent; or the table was written, with its length afterwards.
-pub enum TextChange {
-    Kept,
-    Moved(TextKind, FragmentCursor),
-    Written(u16),
-}
-
-// What was answered: the answer number, the reply's length in the output, and how the texts change.
-pub struct Reaction {
-    pub length: usize,
-    pub answer: u8,
-    pub change: TextChange,
-}
-
-// What a message leaves to be done to the display: an accepted Set whose value is to be stored, a Save, or no more than its texts' states.
+// What a message leaves to be done to the display: the value of an accepted Set is stored; a Save; a reply of so many bytes was sent, to a Get (answer 0) or to a Timing with its answer; a fragment was sent in such a reply;
+// the table was written, with its length afterwards; or the message was refused. Replies that change nothing are told apart because whoever copies the display then does so once for each, at the end of a
+// short way: the compiler looks back over no more than 100 stores to see that the display is still as it was passed.
 pub enum Pending {
     Store(u8, u16),
     Save,
-    Texts(Reaction),
+    Shown(usize),
+    Told(u8, usize),
+    Moved(TextKind, FragmentCursor, usize),
+    Written(u16),
+    Refused(u8, usize),
 }
 
-// The capabilities string's state afterwards.
-fn capabilities_after(t: TextState, change: TextChange) -> TextState
-    ensures { λ r. ⌜ r ≡ capabilitiesAfter t change ⌝ }
-{
-    match change {
-        TextChange::Kept => t,
-        TextChange::Moved(kind, cursor) => match kind {
-            TextKind::Capabilities => TextState {
-                length: t.length,
-                cursor: cursor,
-            },
-            TextKind::Table => t,
-        },
-        TextChange::Written(length) => t,
-    }
-}
-
-// The table's state afterwards.
-fn table_after(t: TextState, change: TextChange) -> TextState
-    ensures { λ r. ⌜ r ≡ tableAfter t change ⌝ }
-{
-    match change {
-        TextChange::Kept => t,
-        TextChange::Moved(kind, cursor) => match kind {
-            TextKind::Capabilities => t,
-            TextKind::Table => TextState {
-                length: t.length,
-                cursor: cursor,
-            },
-        },
-        TextChange::Written(length) => table::unsent(length),
-    }
-}
-
-fn found_in(change: TextChange) -> Found
-    ensures { λ r. ⌜ r ≡ foundIn change ⌝ }
-{
-    match change {
-        TextChange::Kept => Found::Nothing,
-        TextChange::Moved(kind, cursor) => Found::Fragment(kind, cursor),
-        TextChange::Written(length) => Found::Nothing,
-    }
-}
-
-// The step's result where only the texts' states change. It has no branch of its own: the display is copied once.
-pub fn finish(mut d: Display, reaction: Reaction) -> Stepped
-    ensures { λ r. ⌜ r ≡ finished d reaction ⌝ }
-{
-    let change = reaction.change;
-    let capabilities = capabilities_after(d.capabilities, change);
-    let listed = table_after(d.table, change);
-    let found = found_in(change);
-    d.capabilities = capabilities;
-    d.table = listed;
-    Stepped {
-        display: d,
-        answer: reaction.answer,
-        length: reaction.length,
-        found: found,
-    }
-}
-
-fn silent(d: Display) -> Stepped
-    ensures { λ r. ⌜ r ≡ silent d ⌝ }
+// The display as it was, with the answer number and the reply's length.
+fn kept(d: Display, answer: u8, length: usize) -> Stepped
+    ensures { λ r. ⌜ r ≡ kept d answer length ⌝ }
 {
     Stepped {
         display: d,
-        answer: answer::DONE,
-        length: 0,
+        answer: answer,
+        length: length,
         found: Found::Nothing,
     }
 }
 
-fn stored(mut d: Display, code: u8, value: u16) -> Display
+// The present value of a code replaced. Only the array is changed apart, so that no more is copied twice.
+pub fn stored(mut d: Display, code: u8, value: u16) -> Display
     ensures { λ r. ⌜ r ≡ withSettings d (withPresent (d .settings) code value) ⌝ }
 {
     let i = code as usize;
     let mut settings = d.settings;
-    settings.present[i] = value;
+    let mut present = settings.present;
+    present[i] = value;
+    settings.present = present;
     d.settings = settings;
     d
 }
@@ -125,13 +60,62 @@ pub fn saved(mut d: Display) -> Display
     d
 }
 
+// The cursor of one of the two texts replaced.
+pub fn with_cursor(mut d: Display, kind: TextKind, cursor: FragmentCursor) -> Display
+    ensures { λ r. ⌜ r ≡ withCursor kind d cursor ⌝ }
+{
+    match kind {
+        TextKind::Capabilities => {
+            let state = TextState {
+                length: d.capabilities.length,
+                cursor: cursor,
+            };
+            d.capabilities = state;
+            d
+        }
+        TextKind::Table => {
+            let state = TextState {
+                length: d.table.length,
+                cursor: cursor,
+            };
+            d.table = state;
+            d
+        }
+    }
+}
+
+// The table written: nothing of it was sent.
+pub fn written(mut d: Display, length: u16) -> Display
+    ensures { λ r. ⌜ r ≡ withTable d (unsent length) ⌝ }
+{
+    d.table = table::unsent(length);
+    d
+}
+
+// A fragment sent.
+fn moved(d: Display, kind: TextKind, cursor: FragmentCursor, length: usize) -> Stepped
+    ensures { λ r. ⌜ r ≡ moved d kind cursor length ⌝ }
+{
+    let display = with_cursor(d, kind, cursor);
+    Stepped {
+        display: display,
+        answer: answer::DONE,
+        length: length,
+        found: Found::Fragment(kind, cursor),
+    }
+}
+
 // The step's result.
 pub fn carry_out(d: Display, pending: Pending) -> Stepped
     ensures { λ r. ⌜ r ≡ stepped d pending ⌝ }
 {
     match pending {
-        Pending::Store(code, value) => silent(stored(d, code, value)),
-        Pending::Save => silent(saved(d)),
-        Pending::Texts(reaction) => finish(d, reaction),
+        Pending::Store(code, value) => kept(stored(d, code, value), answer::DONE, 0),
+        Pending::Save => kept(saved(d), answer::DONE, 0),
+        Pending::Shown(length) => kept(d, answer::DONE, length),
+        Pending::Told(answer, length) => kept(d, answer, length),
+        Pending::Moved(kind, cursor, length) => moved(d, kind, cursor, length),
+        Pending::Written(length) => kept(written(d, length), answer::DONE, 0),
+        Pending::Refused(answer, length) => kept(d, answer, length),
     }
 }

@@ -1,9 +1,7 @@
 // The fragments of the two texts: which one a read finds, and its bytes.
 ghost use mathlib.Core.Path.{_≡_};
 ghost use lib.ListN.{length, take, drop};
-ghost use Rattle.display_rules.specs.State.{textState};
 ghost use Rattle.display_rules.specs.Fragments.{lesser, nextOffset, nextCursor, foundBytes};
-use display_rules::Display;
 use display_rules::Found;
 use display_rules::FragmentCursor;
 use display_rules::TextState;
@@ -77,14 +75,5 @@ pub fn handed_back<'a>(text: &'a [u8], table: &'a [u8], found: Found) -> &'a [u8
                 TextKind::Table => part(table, from, n),
             }
         }
-    }
-}
-
-pub(crate) fn text_state(kind: TextKind, d: Display) -> TextState
-    ensures { λ r. ⌜ r ≡ textState kind d ⌝ }
-{
-    match kind {
-        TextKind::Capabilities => d.capabilities,
-        TextKind::Table => d.table,
     }
 }

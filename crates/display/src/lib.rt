@@ -15,8 +15,6 @@ ghost use Rattle.display_rules.specs.State.{fresh, emptyDisplay, startAnswer, s
 ghost use Rattle.display_rules.specs.Step.{lentSizes, turnOf, outcome, step, left};
 ghost use Rattle.display.specs.Changes.{stepped};
 use changes::Pending;
-use changes::Reaction;
-use changes::TextChange;
 use display_rules::Changed;
 use display_rules::Display;
 use display_rules::Stepped;
@@ -136,22 +134,33 @@ fn obey(
     ensures { λ r. ⌜ left (stepped d r) (now (table .exit)) (now (out .exit)) ≡ outcome (turnOf d (now (text .entry)) (now (table .entry)) (requestIn (now (message .entry)) request)) (now (out .entry)) ⌝ }
 {
     match request {
-        RequestRead::Get(code) => Pending::Texts(operation::get(d, code, out)),
-        RequestRead::Set(code, value) => operation::set(d, code, value),
-        RequestRead::Timing => Pending::Texts(operation::timing(d, out)),
+        RequestRead::Get(code) => {
+            let settings = d.settings;
+            Pending::Shown(operation::get(settings, code, out))
+        }
+        RequestRead::Set(code, value) => {
+            let settings = d.settings;
+            operation::set(settings, code, value)
+        }
+        RequestRead::Timing => {
+            let timing = d.settings.timing;
+            operation::timing(timing, out)
+        }
         RequestRead::Save => Pending::Save,
         RequestRead::Text(q) => {
-            Pending::Texts(operation::read(TextKind::Capabilities, d, text, table, q, out))
+            let state = d.capabilities;
+            operation::read(TextKind::Capabilities, state, d.size, text, table, q, out)
         }
         RequestRead::TableRead(code, q) => {
-            Pending::Texts(operation::table_read(d, text, table, code, q, out))
+            let state = d.table;
+            operation::table_read(state, d.size, text, table, code, q, out)
         }
         RequestRead::TableWrite(code, at, position, n) => {
             let from = position.0;
             let data = &message[from..from + n];
-            Pending::Texts(table::write(d, table, code, at, data))
+            table::write(d.table.length, table, code, at, data)
         }
-        RequestRead::Refused(answer) => Pending::Texts(operation::refuse(answer, out)),
+        RequestRead::Refused(answer) => operation::refuse(answer, out),
     }
 }
 
@@ -164,11 +173,7 @@ pub fn prepare(d: Display, text: &[u8], table: &mut [u8], message: &[u8], out: &
         let request = read_request(TO_DISPLAY, message);
         return obey(d, text, table, request, message, out);
     }
-    Pending::Texts(Reaction {
-        length: 0,
-        answer: answer::WRONG_SIZE,
-        change: TextChange::Kept,
-    })
+    Pending::Refused(answer::WRONG_SIZE, 0)
 }
 
 // One message to the display.

@@ -1,140 +1,113 @@
-// What a display answers to each message but a Set, a Save and a Table write, and how that changes its texts. The output is large enough.
+// What a display answers to each message but a Save and a Table write, and what that leaves to be done to it. The output is large enough. Each function is given those parts of the display that it needs, and speaks of every display
+// with these parts.
 ghost use mathlib.Core.Path.{_≡_};
 ghost use mathlib.Core.List.{List};
 ghost use Prim.Native.Nat.{ℕ, _≤_};
 ghost use lib.ListN.{length};
 ghost use Rattle.message_rules.specs.Limits.{outputRoom};
 ghost use Rattle.message_rules.specs.Read.{refused};
-ghost use Rattle.display_rules.specs.Turn.{getTurn, setTurn, timingTurn};
+ghost use Rattle.settings.specs.Settings.{getCode};
+ghost use Rattle.display_rules.specs.State.{textState};
+ghost use Rattle.display_rules.specs.Turn.{bytesOf, featureReply, setTurn, timingTurn};
 ghost use Rattle.display_rules.specs.Fragments.{readTurn, tableReadTurn};
 ghost use Rattle.display_rules.specs.Step.{turnOf, outcome, left};
 ghost use Rattle.display_rules.specs.declared.Display.{Display};
-ghost use Rattle.display.specs.Changes.{finished, stepped};
+ghost use Rattle.display.specs.Changes.{stepped};
+ghost use Rattle.display.specs.Send.{Sent};
 use crate::changes::Pending;
-use crate::changes::Reaction;
-use crate::changes::TextChange;
 use crate::fragments;
 use crate::send;
-use display_rules::Display;
 use display_rules::Found;
-use message_builder::Built;
-use message_builder::reply;
+use display_rules::TextState;
+use message::Built;
+use message::reply;
 use message_rules::TABLE_CODE;
 use message_rules::TO_HOST;
 use message_rules::TextKind;
 use message_rules::TextOffset;
 use message_rules::answer;
 use message_rules::limits::MOST_FRAGMENT;
+use settings::Settings;
+use settings::Timing;
 
-pub(crate) fn get(d: Display, code: u8, out: &mut [u8]) -> Reaction
+// The length of the reply to a Get.
+pub(crate) fn get(s: Settings, code: u8, out: &mut [u8]) -> usize
     requires { ⌜ outputRoom ≤ length (now out) ⌝ }
-    ensures { λ r. ⌜ ((table : List ℕ) → left (finished d r) table (now (out .exit)) ≡ outcome (getTurn d table code) (now (out .entry))) ⌝ }
+    ensures { λ r. ⌜ Sent (bytesOf (featureReply (getCode s code))) (now (out .entry)) (now (out .exit)) r ⌝ }
 {
-    let settings = d.settings;
-    let length = send::feature(settings::get(settings, code), out);
-    Reaction {
-        length: length,
-        answer: answer::DONE,
-        change: TextChange::Kept,
-    }
+    send::feature(settings::get(s, code), out)
 }
 
 // A Set is judged by the settings. The value of an accepted one is still to be stored.
-pub(crate) fn set(d: Display, code: u8, value: u16) -> Pending
-    ensures { λ r. ⌜ ((table out : List ℕ) → left (stepped d r) table out ≡ outcome (setTurn d table code value) out) ⌝ }
+pub(crate) fn set(s: Settings, code: u8, value: u16) -> Pending
+    ensures { λ r. ⌜ ((d : Display) (table out : List ℕ) → d .settings ≡ s → left (stepped d r) table out ≡ outcome (setTurn d table code value) out) ⌝ }
 {
-    let settings = d.settings;
-    let judgement = settings::judge_set(settings, code, value);
+    let judgement = settings::judge_set(s, code, value);
     if judgement.stored {
         return Pending::Store(code, value);
     }
-    Pending::Texts(Reaction {
-        length: 0,
-        answer: judgement.answer,
-        change: TextChange::Kept,
-    })
+    Pending::Refused(judgement.answer, 0)
 }
 
 // The builder refuses (7) a timing with a reserved bit set, which no start lets in.
-pub(crate) fn timing(d: Display, out: &mut [u8]) -> Reaction
+pub(crate) fn timing(t: Timing, out: &mut [u8]) -> Pending
     requires { ⌜ outputRoom ≤ length (now out) ⌝ }
-    ensures { λ r. ⌜ ((table : List ℕ) → left (finished d r) table (now (out .exit)) ≡ outcome (timingTurn d table) (now (out .entry))) ⌝ }
+    ensures { λ r. ⌜ ((d : Display) (table : List ℕ) → d .settings .timing ≡ t → left (stepped d r) table (now (out .exit)) ≡ outcome (timingTurn d table) (now (out .entry))) ⌝ }
 {
-    let t = d.settings.timing;
     let built = reply::build_timing_reply(TO_HOST, t.status, t.horizontal, t.vertical, out);
     match built {
-        Built::Done(n) => Reaction {
-            length: n,
-            answer: answer::DONE,
-            change: TextChange::Kept,
-        },
-        Built::Refused(answer) => Reaction {
-            length: 0,
-            answer: answer,
-            change: TextChange::Kept,
-        },
+        Built::Done(n) => Pending::Told(answer::DONE, n),
+        Built::Refused(answer) => Pending::Told(answer, 0),
     }
 }
 
 // A read of one of the two texts: its next fragment is copied into the reply.
 pub(crate) fn read<'a>(
     kind: TextKind,
-    d: Display,
+    state: TextState,
+    most: u16,
     text: &'a [u8],
     table: &'a [u8],
     q: TextOffset,
     out: &mut [u8],
-) -> Reaction
+) -> Pending
     requires { ⌜ outputRoom ≤ length (now out) ⌝ }
-    ensures { λ r. ⌜ left (finished d r) (now (table .entry)) (now (out .exit)) ≡ outcome (readTurn kind d (now (text .entry)) (now (table .entry)) (q .0)) (now (out .entry)) ⌝ }
+    ensures { λ r. ⌜ ((d : Display) → textState kind d ≡ state → d .size ≡ most → left (stepped d r) (now (table .entry)) (now (out .exit)) ≡ outcome (readTurn kind d (now (text .entry)) (now (table .entry)) (q .0)) (now (out .entry))) ⌝ }
 {
-    let state = fragments::text_state(kind, d);
-    let size = fragments::lesser(d.size, MOST_FRAGMENT as u16);
+    let size = fragments::lesser(most, MOST_FRAGMENT as u16);
     let cursor = fragments::next_cursor(size, state, q);
     let found = Found::Fragment(kind, cursor);
     let bytes = fragments::handed_back(text, table, found);
     let length = send::fragment(kind, cursor, bytes, out);
-    Reaction {
-        length: length,
-        answer: answer::DONE,
-        change: TextChange::Moved(kind, cursor),
-    }
+    Pending::Moved(kind, cursor, length)
 }
 
 pub(crate) fn table_read<'a>(
-    d: Display,
+    state: TextState,
+    most: u16,
     text: &'a [u8],
     table: &'a [u8],
     code: u8,
     q: TextOffset,
     out: &mut [u8],
-) -> Reaction
+) -> Pending
     requires { ⌜ outputRoom ≤ length (now out) ⌝ }
-    ensures { λ r. ⌜ left (finished d r) (now (table .entry)) (now (out .exit)) ≡ outcome (tableReadTurn d (now (text .entry)) (now (table .entry)) code (q .0)) (now (out .entry)) ⌝ }
+    ensures { λ r. ⌜ ((d : Display) → d .table ≡ state → d .size ≡ most → left (stepped d r) (now (table .entry)) (now (out .exit)) ≡ outcome (tableReadTurn d (now (text .entry)) (now (table .entry)) code (q .0)) (now (out .entry))) ⌝ }
 {
     if code != TABLE_CODE {
-        let length = send::null(out);
-        return Reaction {
-            length: length,
-            answer: answer::CODE_NOT_ALLOWED,
-            change: TextChange::Kept,
-        };
+        return Pending::Refused(answer::CODE_NOT_ALLOWED, send::null(out));
     }
-    read(TextKind::Table, d, text, table, q, out)
+    read(TextKind::Table, state, most, text, table, q, out)
 }
 
 // A message that the reader refused: on 6 the null message is sent.
-pub(crate) fn refuse(answer: u8, out: &mut [u8]) -> Reaction
+pub(crate) fn refuse(answer: u8, out: &mut [u8]) -> Pending
     requires { ⌜ outputRoom ≤ length (now out) ⌝ }
-    ensures { λ r. ⌜ ((d : Display) (text table : List ℕ) → left (finished d r) table (now (out .exit)) ≡ outcome (turnOf d text table (refused answer)) (now (out .entry))) ⌝ }
+    ensures { λ r. ⌜ ((d : Display) (text table : List ℕ) → left (stepped d r) table (now (out .exit)) ≡ outcome (turnOf d text table (refused answer)) (now (out .entry))) ⌝ }
 {
     let mut length = 0;
     if answer == answer::UNKNOWN_COMMAND {
         length = send::null(out);
     }
-    Reaction {
-        length: length,
-        answer: answer,
-        change: TextChange::Kept,
-    }
+    Pending::Refused(answer, length)
 }

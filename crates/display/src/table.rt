@@ -7,10 +7,9 @@ ghost use Rattle.display_rules.specs.Limits.{tableRoom};
 ghost use Rattle.display_rules.specs.State.{unsent};
 ghost use Rattle.display_rules.specs.Table.{writeAnswer, lengthAfter, written, tableWriteTurn};
 ghost use Rattle.display_rules.specs.Step.{outcome, left};
-ghost use Rattle.display.specs.Changes.{finished};
-use crate::changes::Reaction;
-use crate::changes::TextChange;
-use display_rules::Display;
+ghost use Rattle.display_rules.specs.declared.Display.{Display};
+ghost use Rattle.display.specs.Changes.{stepped};
+use crate::changes::Pending;
 use display_rules::FragmentCursor;
 use display_rules::TextState;
 use display_rules::limits::TABLE_ROOM;
@@ -67,25 +66,15 @@ fn put(data: &[u8], at: usize, table: &mut [u8])
     bytes::copy(data, &mut table[at..]);
 }
 
-// A Table write.
-pub(crate) fn write(d: Display, table: &mut [u8], code: u8, at: TextOffset, data: &[u8]) -> Reaction
+// A Table write, to a table of `old` bytes.
+pub(crate) fn write(old: u16, table: &mut [u8], code: u8, at: TextOffset, data: &[u8]) -> Pending
     requires { ⌜ length (now table) ≡ tableRoom ⌝ }
-    ensures { λ r. ⌜ ((out : List ℕ) → left (finished d r) (now (table .exit)) out ≡ outcome (tableWriteTurn d (now (table .entry)) code (at .0) (now («data» .entry))) out) ⌝ }
+    ensures { λ r. ⌜ ((d : Display) (out : List ℕ) → d .table .length ≡ old → left (stepped d r) (now (table .exit)) out ≡ outcome (tableWriteTurn d (now (table .entry)) code (at .0) (now («data» .entry))) out) ⌝ }
 {
-    let old = d.table.length;
     let answer = write_answer(code, old, at.0, data.len());
     if answer == answer::DONE {
         put(data, at.0 as usize, table);
-        let length = length_after(old, at.0, data.len() as u16);
-        return Reaction {
-            length: 0,
-            answer: answer,
-            change: TextChange::Written(length),
-        };
+        return Pending::Written(length_after(old, at.0, data.len() as u16));
     }
-    Reaction {
-        length: 0,
-        answer: answer,
-        change: TextChange::Kept,
-    }
+    Pending::Refused(answer, 0)
 }

@@ -23,7 +23,7 @@ pub struct Timing {
     pub vertical: u16,
 }
 
-// What a device keeps for each code 0 to 255, and its timing.
+// What a device keeps for each code 0 to 255, and its timing. The timing stands before the present values so that they are an end of the struct on their own: where a Set replaces them, the rest is copied as one.
 #[repr(C)]
 pub struct Settings {
     pub declared: [u64; 4],
@@ -32,9 +32,9 @@ pub struct Settings {
     pub momentary: [u64; 4],
     pub continuous: [u64; 4],
     pub maximum: [u16; 256],
-    pub present: [u16; 256],
     pub saved: [u16; 256],
     pub timing: Timing,
+    pub present: [u16; 256],
 }
 
 // What is said of a code when it is declared. The kind is the type: 0 (kept) or 1 (momentary).

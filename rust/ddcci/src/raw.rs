@@ -140,9 +140,9 @@ pub struct Settings {
     pub momentary: [u64; 4],
     pub continuous: [u64; 4],
     pub maximum: [u16; 256],
-    pub present: [u16; 256],
     pub saved: [u16; 256],
     pub timing: Timing,
+    pub present: [u16; 256],
 }
 
 /// A text's length, and the offset and the length of the fragment that was sent last.

@@ -21,7 +21,23 @@ text at 0: answer 0, reply 6E 88 E3 00 00 28 76 63 70 28 30, text 1, 5 bytes fro
 text at 5: answer 0, reply 6E 88 E3 00 05 31 30 20 46 34 03, text 1, 5 bytes from 5
 ";
 
-fn compiles_and_writes(source: &str, library: &str, writes: &str) {
+/// The bytes that a step gives to `memcpy`, by the message: three quarters of a display's 1,720 bytes are the three arrays, and 1,696 is one copy of all but its last numbers, which are moved one by one. An array of 512 that is
+/// read or stored to at a variable index is copied for it: two for a Get, one to judge a Set and one to store its value. A Save copies `saved` and what stands before it in the settings once more.
+const COPIES: [(&str, usize); 11] = [
+    ("get: answer 0", 2720),
+    ("get of an undeclared code: answer 0", 1696),
+    ("set: answer 0", 2720),
+    ("set above the maximum: answer 9", 2208),
+    ("set of an undeclared code: answer 8", 1696),
+    ("save: answer 0", 2880),
+    ("timing: answer 0", 1696),
+    ("text: answer 0", 1696),
+    ("table write: answer 0", 1696),
+    ("table read: answer 0", 1696),
+    ("wrong checksum: answer 5", 1696),
+];
+
+fn written_by(source: &str, library: &str, more: &[&str]) -> String {
     let root = Path::new(env!("CARGO_MANIFEST_DIR")).join("../..");
     let program = Path::new(env!("CARGO_TARGET_TMPDIR")).join(source);
     let compiled = Command::new("cc")
@@ -29,6 +45,7 @@ fn compiles_and_writes(source: &str, library: &str, writes: &str) {
         .arg(root.join("include"))
         .arg(root.join(format!("c/{source}.c")))
         .arg(root.join(format!("target/staticlib/{library}")))
+        .args(more)
         .arg("-o")
         .arg(&program)
         .status()
@@ -36,15 +53,27 @@ fn compiles_and_writes(source: &str, library: &str, writes: &str) {
     assert!(compiled.success());
     let output = Command::new(&program).output().expect("the example runs");
     assert!(output.status.success());
-    assert_eq!(String::from_utf8_lossy(&output.stdout), writes);
+    String::from_utf8(output.stdout).expect("it writes text")
 }
 
 #[test]
 fn the_example_compiles_and_writes_what_the_papers_say() {
-    compiles_and_writes("example", "libddcci.a", EXAMPLE_WRITES);
+    assert_eq!(written_by("example", "libddcci.a", &[]), EXAMPLE_WRITES);
 }
 
 #[test]
 fn the_display_compiles_and_answers_as_the_papers_say() {
-    compiles_and_writes("display", "libddcci_display.a", DISPLAY_WRITES);
+    assert_eq!(written_by("display", "libddcci_display.a", &[]), DISPLAY_WRITES);
+}
+
+#[test]
+fn a_step_copies_no_more_than_this() {
+    let written = written_by("copies", "libddcci_display.a", &["-Wl,--wrap=memcpy,--wrap=memmove"]);
+    let lines: Vec<&str> = written.lines().collect();
+    assert_eq!(lines.len(), COPIES.len());
+    for (line, (what, most)) in lines.iter().zip(COPIES) {
+        let (said, bytes) = line.rsplit_once(", ").expect("a line has a number of bytes");
+        assert_eq!(said, what);
+        assert!(bytes.parse::<usize>().expect("a number") <= most, "{line}: more than {most}");
+    }
 }

@@ -1,5 +1,4 @@
 -- `ddcci_display::ddcci_display_step` meets its contract. What is pending is carried out, case by case, as `stepped` says.
-use Rattle.settings.specs.Settings.{withPresent}
 use Rattle.display.specs.Changes.{stepped}
 use Rattle.ddcci_display.proofs.Laws.{steps-from}
 use borrow.Author.Needs.{needs}
@@ -12,17 +11,11 @@ prepare-requires c κs = search needs
 enum-known-pending : tie.Need-enum-known-pending
 enum-known-pending c = search needs
 
-cast-i : tie.Need-cast-i
-cast-i c = search needs
+stored-requires : tie.Need-stored-requires
+stored-requires c κs = search needs
 
-mul-settings : tie.Need-mul-settings
-mul-settings c = search needs
-
-element-write-settings : tie.Need-element-write-settings
-element-write-settings c = search needs
-
-silent-requires : tie.Need-silent-requires
-silent-requires c κs = search needs
+plain-requires : tie.Need-plain-requires
+plain-requires c κs = search needs
 
 same-length : tie.Need-same-length
 same-length c = search needs
@@ -31,11 +24,9 @@ same-length-2 : tie.Need-same-length-2
 same-length-2 c = search needs
 
 returns : tie.Need-returns
-unfolding withPresent
 returns c =
-    let a = c .before .before .before .before .before .before .before .before .before .before .before .before .before .before .before .before .args in
     let p = c .before .before .before .before .before .before .before .before .before .prepare in
-    steps-from (stepped (a .d) (p .result)) _ _ _ (p .ensures) (rw (c .before .before .before .pending .given .1, c .silent .ensures))
+    steps-from (stepped (c .before .before .before .before .before .before .before .before .before .before .before .before .before .before .before .before .args .d) (p .result)) _ _ _ (p .ensures) (rw (c .before .before .before .pending .given .1, c .plain .ensures, c .before .stored .ensures))
 
 enum-told : tie.Need-enum-told
 enum-told c = search needs
@@ -43,8 +34,8 @@ enum-told c = search needs
 saved-requires : tie.Need-saved-requires
 saved-requires c κs = search needs
 
-silent-requires-2 : tie.Need-silent-requires-2
-silent-requires-2 c κs = search needs
+plain-requires-2 : tie.Need-plain-requires-2
+plain-requires-2 c κs = search needs
 
 same-length-3 : tie.Need-same-length-3
 same-length-3 c = search needs
@@ -54,15 +45,14 @@ same-length-4 c = search needs
 
 returns-2 : tie.Need-returns-2
 returns-2 c =
-    let a = c .before .before .before .before .before .before .before .before .before .before .before .before .before .before .before .args in
     let p = c .before .before .before .before .before .before .before .before .prepare in
-    steps-from (stepped (a .d) (p .result)) _ _ _ (p .ensures) (rw (c .before .before .enum-told .given .1, c .silent2 .ensures, c .before .saved .ensures))
+    steps-from (stepped (c .before .before .before .before .before .before .before .before .before .before .before .before .before .before .before .args .d) (p .result)) _ _ _ (p .ensures) (rw (c .before .before .enum-told .given .1, c .plain2 .ensures, c .before .saved .ensures))
 
 enum-known-pending-2 : tie.Need-enum-known-pending-2
 enum-known-pending-2 c = search needs
 
-answered-requires : tie.Need-answered-requires
-answered-requires c κs = search needs
+plain-requires-3 : tie.Need-plain-requires-3
+plain-requires-3 c κs = search needs
 
 same-length-5 : tie.Need-same-length-5
 same-length-5 c = search needs
@@ -72,9 +62,79 @@ same-length-6 c = search needs
 
 returns-3 : tie.Need-returns-3
 returns-3 c =
-    let a = c .before .before .before .before .before .before .before .before .before .before .before .before .before .before .before .args in
     let p = c .before .before .before .before .before .before .before .before .prepare in
-    steps-from (stepped (a .d) (p .result)) _ _ _ (p .ensures) (rw (c .before .before .pending2 .given .1, c .answered .ensures))
+    steps-from (stepped (c .before .before .before .before .before .before .before .before .before .before .before .before .before .before .before .args .d) (p .result)) _ _ _ (p .ensures) (rw (c .before .before .pending2 .given .1, c .plain3 .ensures))
+
+enum-known-pending-3 : tie.Need-enum-known-pending-3
+enum-known-pending-3 c = search needs
+
+plain-requires-4 : tie.Need-plain-requires-4
+plain-requires-4 c κs = search needs
+
+same-length-7 : tie.Need-same-length-7
+same-length-7 c = search needs
+
+same-length-8 : tie.Need-same-length-8
+same-length-8 c = search needs
+
+returns-4 : tie.Need-returns-4
+returns-4 c =
+    let p = c .before .before .before .before .before .before .before .before .prepare in
+    steps-from (stepped (c .before .before .before .before .before .before .before .before .before .before .before .before .before .before .before .args .d) (p .result)) _ _ _ (p .ensures) (rw (c .before .before .pending3 .given .1, c .plain4 .ensures))
+
+enum-known-pending-4 : tie.Need-enum-known-pending-4
+enum-known-pending-4 c = search needs
+
+moved-requires : tie.Need-moved-requires
+moved-requires c κs = search needs
+
+same-length-9 : tie.Need-same-length-9
+same-length-9 c = search needs
+
+same-length-10 : tie.Need-same-length-10
+same-length-10 c = search needs
+
+returns-5 : tie.Need-returns-5
+returns-5 c =
+    let p = c .before .before .before .before .before .before .before .before .prepare in
+    steps-from (stepped (c .before .before .before .before .before .before .before .before .before .before .before .before .before .before .before .args .d) (p .result)) _ _ _ (p .ensures) (rw (c .before .before .pending4 .given .1, c .moved .ensures))
+
+enum-known-pending-5 : tie.Need-enum-known-pending-5
+enum-known-pending-5 c = search needs
+
+written-requires : tie.Need-written-requires
+written-requires c κs = search needs
+
+plain-requires-5 : tie.Need-plain-requires-5
+plain-requires-5 c κs = search needs
+
+same-length-11 : tie.Need-same-length-11
+same-length-11 c = search needs
+
+same-length-12 : tie.Need-same-length-12
+same-length-12 c = search needs
+
+returns-6 : tie.Need-returns-6
+returns-6 c =
+    let p = c .before .before .before .before .before .before .before .before .before .prepare in
+    steps-from (stepped (c .before .before .before .before .before .before .before .before .before .before .before .before .before .before .before .before .args .d) (p .result)) _ _ _ (p .ensures) (rw (c .before .before .before .pending5 .given .1, c .plain5 .ensures, c .before .written .ensures))
+
+enum-known-pending-6 : tie.Need-enum-known-pending-6
+enum-known-pending-6 c = search needs
+
+plain-requires-6 : tie.Need-plain-requires-6
+plain-requires-6 c κs = search needs
+
+same-length-13 : tie.Need-same-length-13
+same-length-13 c = search needs
+
+same-length-14 : tie.Need-same-length-14
+same-length-14 c = search needs
+
+returns-7 : tie.Need-returns-7
+returns-7 c =
+    let p = c .before .before .before .before .before .before .before .before .prepare in
+    steps-from (stepped (c .before .before .before .before .before .before .before .before .before .before .before .before .before .before .before .args .d) (p .result)) _ _ _ (p .ensures) (rw (c .before .before .pending6 .given .1, c .plain6 .ensures))
 
 pub ddcci-display-step-spec : {M : Type 1} → statement M
 ddcci-display-step-spec =
@@ -82,21 +142,40 @@ ddcci-display-step-spec =
     (tie.spec
     prepare-requires
     enum-known-pending
-    cast-i
-    mul-settings
-    element-write-settings
-    silent-requires
+    stored-requires
+    plain-requires
     same-length
     same-length-2
     returns
     enum-told
     saved-requires
-    silent-requires-2
+    plain-requires-2
     same-length-3
     same-length-4
     returns-2
     enum-known-pending-2
-    answered-requires
+    plain-requires-3
     same-length-5
     same-length-6
-    returns-3)
+    returns-3
+    enum-known-pending-3
+    plain-requires-4
+    same-length-7
+    same-length-8
+    returns-4
+    enum-known-pending-4
+    moved-requires
+    same-length-9
+    same-length-10
+    returns-5
+    enum-known-pending-5
+    written-requires
+    plain-requires-5
+    same-length-11
+    same-length-12
+    returns-6
+    enum-known-pending-6
+    plain-requires-6
+    same-length-13
+    same-length-14
+    returns-7)

@@ -1,5 +1,6 @@
 -- `display::obey` meets its contract. Each arm of the match is the definition's case of what was read.
-use Rattle.display_rules.specs.Turn.{saveTurn}
+use mathlib.Core.Path.{refl}
+use Rattle.display_rules.specs.Turn.{getTurn, saveTurn}
 use Rattle.display.proofs.Laws.{part-length}
 use Prim.Native.Nat.{_-_}
 use native.Mathlib.Omega.{arith}
@@ -68,16 +69,17 @@ same-length : tie.Need-same-length
 same-length c = search needs
 
 returns : tie.Need-returns
-returns c = rw (c .before .before .before .before .before .request .given .1) (c .before .before .get .ensures _)
+unfolding getTurn
+returns c = rw (c .before .before .before .before .before .before .request .given .1, c .before .before .get .ensures .counted, c .before .before .get .ensures .leaves)
 
 returns-2 : tie.Need-returns-2
-returns-2 c = rw (c .before .before .request2 .given .1) (c .set .ensures _ _)
+returns-2 c = rw (c .before .before .before .request2 .given .1) (c .set .ensures (c .before .before .before .before .before .before .before .before .before .args .d) _ _ refl)
 
 same-length-2 : tie.Need-same-length-2
 same-length-2 c = search needs
 
 returns-3 : tie.Need-returns-3
-returns-3 c = rw (c .before .before .before .before .enum-told .given .1) (c .before .before .timing .ensures _)
+returns-3 c = rw (c .before .before .before .before .before .enum-told .given .1) (c .before .before .timing2 .ensures (c .before .before .before .before .before .before .before .before .before .before .before .args .d) _ refl)
 
 returns-4 : tie.Need-returns-4
 unfolding saveTurn
@@ -90,7 +92,7 @@ same-length-4 : tie.Need-same-length-4
 same-length-4 c = search needs
 
 returns-5 : tie.Need-returns-5
-returns-5 c = rw (c .before .before .before .before .before .before .request3 .given .1) (c .before .before .read .ensures)
+returns-5 c = rw (c .before .before .before .before .before .before .before .request3 .given .1) (c .before .before .read .ensures (c .before .before .before .before .before .before .before .before .before .before .before .before .before .args .d) refl refl)
 
 same-length-5 : tie.Need-same-length-5
 same-length-5 c = search needs
@@ -99,13 +101,15 @@ same-length-6 : tie.Need-same-length-6
 same-length-6 c = search needs
 
 returns-6 : tie.Need-returns-6
-returns-6 c = rw (c .before .before .before .before .before .before .request4 .given .1) (c .before .before .table-read .ensures)
+returns-6 c = rw (c .before .before .before .before .before .before .before .request4 .given .1) (c .before .before .table-read .ensures (c .before .before .before .before .before .before .before .before .before .before .before .before .before .args .d) refl refl)
 
 same-length-7 : tie.Need-same-length-7
 same-length-7 c = search needs
 
 returns-7 : tie.Need-returns-7
-returns-7 c = rw (c .before .before .before .before .before .before .request5 .given .1) (rw part-length at (c .before .before .write .ensures (c .before .before .before .before .before .before .before .before .before .before .before .before .args .out .now)))
+returns-7 c =
+    let a = c .before .before .before .before .before .before .before .before .before .before .before .before .args in
+    rw (c .before .before .before .before .before .before .request5 .given .1) (rw part-length at (c .before .before .write .ensures (a .d) (a .out .now) refl))
 
 same-length-8 : tie.Need-same-length-8
 same-length-8 c = search needs

@@ -13,7 +13,7 @@ same-length c = search needs
 
 returns : tie.Need-returns
 unfolding tableReadTurn
-returns c = rw (ne-eqb _ _ (c .before .before .before .before .if1 .taken), c .before .before .null .ensures .counted, c .before .before .null .ensures .leaves)
+returns c = λ d state most. rw (ne-eqb _ _ (c .before .before .before .before .if1 .taken), c .before .before .null .ensures .counted, c .before .before .null .ensures .leaves)
 
 read-requires : tie.Need-read-requires
 read-requires c κs = search needs
@@ -23,8 +23,15 @@ same-length-2 c = search needs
 
 returns-2 : tie.Need-returns-2
 unfolding tableReadTurn
-returns-2 c = rw (eq-eqb _ _ (c .before .before .before .before .if1 .left)) (c .before .before .read .ensures)
+returns-2 c = λ d state most. rw (eq-eqb _ _ (c .before .before .before .before .if1 .left)) (c .before .before .read .ensures d state most)
 
 pub table-read-spec : {M : Type 1} → statement M
 table-read-spec =
-    tie.close (tie.spec null-requires same-length returns read-requires same-length-2 returns-2)
+    tie.close
+    (tie.spec
+    null-requires
+    same-length
+    returns
+    read-requires
+    same-length-2
+    returns-2)

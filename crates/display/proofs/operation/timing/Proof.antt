@@ -20,8 +20,8 @@ same-length c = search needs
 returns : tie.Need-returns
 unfolding timingTurn
 returns c =
-    let b = built-done (c .before .before .before .before .before .build-timing-reply .ensures) (c .before .before .before .before .before .before .before .before .before .pre) _ (c .before .built .given .1) in
-    λ table. rw (b .0, b .1 .counted, b .1 .leaves)
+    let b = built-done (c .before .before .before .before .before .build-timing-reply .ensures) (c .before .before .before .before .before .before .before .before .pre) _ (c .before .built .given .1) in
+    λ d table same. rw (same, b .0, b .1 .counted, b .1 .leaves)
 
 same-length-2 : tie.Need-same-length-2
 same-length-2 c = search needs
@@ -29,8 +29,8 @@ same-length-2 c = search needs
 returns-2 : tie.Need-returns-2
 unfolding timingTurn
 returns-2 c =
-    let b = built-refused (c .before .before .before .before .before .build-timing-reply .ensures) (c .before .before .before .before .before .before .before .before .before .pre) _ (c .before .built2 .given .1) in
-    λ table. rw (b .0, b .1, b .2)
+    let b = built-refused (c .before .before .before .before .before .build-timing-reply .ensures) (c .before .before .before .before .before .before .before .before .pre) _ (c .before .built2 .given .1) in
+    λ d table same. rw (same, b .0, b .1, b .2)
 
 pub timing-spec : {M : Type 1} → statement M
 timing-spec =

@@ -28,11 +28,11 @@ same-length c = search needs
 
 returns : tie.Need-returns
 unfolding tableWriteTurn
-returns c = λ out. rw (← c .before .before .before .before .before .before .before .write-answer .ensures, c .before .before .before .before .before .before .if1 .taken, c .length-after .ensures, c .before .before .before .put .ensures)
+returns c = λ d out same. rw (same, ← c .before .before .before .before .before .before .before .write-answer .ensures, c .before .before .before .before .before .before .if1 .taken, c .length-after .ensures, c .before .before .before .put .ensures)
 
 returns-2 : tie.Need-returns-2
 unfolding tableWriteTurn
-returns-2 c = λ out. rw (← c .before .write-answer .ensures, ne-eqb _ _ (c .if1 .left))
+returns-2 c = λ d out same. rw (same, ← c .before .write-answer .ensures, ne-eqb _ _ (c .if1 .left))
 
 pub write-spec : {M : Type 1} → statement M
 write-spec =

@@ -1,14 +1,12 @@
--- What a builder leaves when the output is large enough, that no fragment is too long, a table that was written in a part of its buffer, and what becomes of the display.
-use mathlib.Core.Path.{_≡_, refl, sym, ap, ap₂, _∙_}
+-- What a builder leaves when the output is large enough, that no fragment is too long, and what becomes of the display.
+use mathlib.Core.Path.{_≡_, refl, sym, ap, _∙_}
 use mathlib.Core.Bool.{Bool, true, false, cond, not, _&&_}
-use mathlib.Core.List.{List, [], _++_, append-nil}
+use mathlib.Core.List.{List}
 use Prim.Native.Nat.{ℕ, _+_, _-_, _≤_}
 use native.Mathlib.Omega.{arith}
-use lib.ListN.{length, take, drop, length-take, length-drop, drop-of-length-le}
-use lib.Seq.{take-all, take-length, drop-drop}
+use lib.ListN.{length, length-take}
 use lib.Dec.{eqb, leb}
 use borrow.Author.Tests.{eqb-true, le-leb}
-use borrow.Rule.Slice.PartMut.{midOf, postOf, putMid, post-is}
 use Rattle.message_rules.specs.Answer.{done, wrongField}
 use Rattle.message_rules.specs.Limits.{outputRoom, mostFragment}
 use Rattle.message_builder.specs.Output.{over, Builds}
@@ -20,7 +18,6 @@ use Rattle.settings.proofs.Answers.{both}
 use Rattle.display_rules.specs.State.{withSettings}
 use Rattle.display_rules.specs.Turn.{accepted, refusal, noReply, setTurn}
 use Rattle.display_rules.specs.Fragments.{lesser, nextCursor, foundBytes}
-use Rattle.display_rules.specs.Table.{written}
 use Rattle.message_rules.specs.declared.TextKind.{TextKind}
 use Rattle.display_rules.specs.declared.Display.{Display}
 use Rattle.display_rules.specs.declared.TextState.{TextState}
@@ -74,17 +71,6 @@ pub fragment-fits : (k : TextKind) (text table : List ℕ) (p : ℕ) (t : TextSt
 unfolding nextCursor
 fragment-fits k text table p t q =
     simp length-take (omega (arith, lesser-right p mostFragment, lesser-left (lesser p mostFragment) (t .length - nextCursor (lesser p mostFragment) t q .offset .0)))
-
--- ---- the table
-
--- a copy into the part of the buffer from an offset on
-pub put-is : (at end : ℕ) (p s ys : List ℕ) → at + length s ≤ length p → end ≡ length p → ys ≡ take (length s) s ++ drop (length s) (midOf at (end - at) p)
-    → putMid at (end - at) p ys ≡ written p at s
-put-is at end p s ys h l f =
-    let whole : midOf at (end - at) p ≡ drop at p = take-all (end - at) (drop at p) (omega (arith, length-drop at p)) in
-    let none : postOf at (end - at) p ≡ [] = post-is at end p (omega arith) ∙ drop-of-length-le p {i = end} (omega arith) in
-    let part : ys ≡ s ++ drop (at + length s) p = f ∙ ap₂ (λ (x y : List ℕ). x ++ drop (length s) y) (take-length s) whole ∙ ap (λ (x : List ℕ). s ++ x) (drop-drop (length s) at p) in
-    ap₂ (λ (x y : List ℕ). take at p ++ (x ++ y)) part none ∙ ap (λ (x : List ℕ). take at p ++ x) (append-nil (s ++ drop (at + length s) p))
 
 -- ---- the data of a message
 

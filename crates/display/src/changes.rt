@@ -4,12 +4,12 @@ ghost use Rattle.message_rules.specs.Answer.{done};
 ghost use Rattle.settings.specs.Settings.{withPresent, saveAll};
 ghost use Rattle.display_rules.specs.State.{unsent, withSettings, withTable, withCursor};
 ghost use Rattle.display.specs.Changes.{kept, moved, stepped};
-use crate::table;
 use display_rules::Display;
 use display_rules::Found;
 use display_rules::FragmentCursor;
 use display_rules::Stepped;
 use display_rules::TextState;
+use display_texts::table;
 use message_rules::TextKind;
 use message_rules::answer;
 

@@ -1,9 +1,7 @@
 // A display: its start, declaring, and one step for each message, proved equal to display_rules' definitions.
 pub mod changes;
-pub mod fragments;
 mod operation;
 mod send;
-mod table;
 
 ghost use mathlib.Core.Path.{_≡_};
 ghost use Prim.Native.Nat.{_≤_};
@@ -19,8 +17,9 @@ use display_rules::Changed;
 use display_rules::Display;
 use display_rules::Stepped;
 use display_rules::limits::TABLE_ROOM;
-use message_reader::RequestRead;
-use message_reader::request::read_request;
+use display_texts::table;
+use message::RequestRead;
+use message::request::read_request;
 use message_rules::TO_DISPLAY;
 use message_rules::TextKind;
 use message_rules::answer;
@@ -158,7 +157,7 @@ fn obey(
         RequestRead::TableWrite(code, at, position, n) => {
             let from = position.0;
             let data = &message[from..from + n];
-            table::write(d.table.length, table, code, at, data)
+            operation::write(d.table.length, table, code, at, data)
         }
         RequestRead::Refused(answer) => operation::refuse(answer, out),
     }

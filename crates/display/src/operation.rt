@@ -1,4 +1,4 @@
-// What a display answers to each message but a Save and a Table write, and what that leaves to be done to it. The output is large enough. Each function is given those parts of the display that it needs, and speaks of every display
+// What a display answers to each message but a Save, and what that leaves to be done to it. The output is large enough. Each function is given those parts of the display that it needs, and speaks of every display
 // with these parts.
 ghost use mathlib.Core.Path.{_≡_};
 ghost use mathlib.Core.List.{List};
@@ -9,16 +9,19 @@ ghost use Rattle.message_rules.specs.Read.{refused};
 ghost use Rattle.settings.specs.Settings.{getCode};
 ghost use Rattle.display_rules.specs.State.{textState};
 ghost use Rattle.display_rules.specs.Turn.{bytesOf, featureReply, setTurn, timingTurn};
+ghost use Rattle.display_rules.specs.Limits.{tableRoom};
 ghost use Rattle.display_rules.specs.Fragments.{readTurn, tableReadTurn};
+ghost use Rattle.display_rules.specs.Table.{tableWriteTurn};
 ghost use Rattle.display_rules.specs.Step.{turnOf, outcome, left};
 ghost use Rattle.display_rules.specs.declared.Display.{Display};
 ghost use Rattle.display.specs.Changes.{stepped};
 ghost use Rattle.display.specs.Send.{Sent};
 use crate::changes::Pending;
-use crate::fragments;
 use crate::send;
 use display_rules::Found;
 use display_rules::TextState;
+use display_texts::fragments;
+use display_texts::table;
 use message::Built;
 use message::reply;
 use message_rules::TABLE_CODE;
@@ -98,6 +101,18 @@ pub(crate) fn table_read<'a>(
         return Pending::Refused(answer::CODE_NOT_ALLOWED, send::null(out));
     }
     read(TextKind::Table, state, most, text, table, q, out)
+}
+
+// A write to the table, of `old` bytes.
+pub(crate) fn write(old: u16, table: &mut [u8], code: u8, at: TextOffset, data: &[u8]) -> Pending
+    requires { ⌜ length (now table) ≡ tableRoom ⌝ }
+    ensures { λ r. ⌜ ((d : Display) (out : List ℕ) → d .table .length ≡ old → left (stepped d r) (now (table .exit)) out ≡ outcome (tableWriteTurn d (now (table .entry)) code (at .0) (now («data» .entry))) out) ⌝ }
+{
+    let writing = table::write(old, table, code, at, data);
+    if writing.answer == answer::DONE {
+        return Pending::Written(writing.length);
+    }
+    Pending::Refused(writing.answer, 0)
 }
 
 // A message that the reader refused: on 6 the null message is sent.

@@ -1,4 +1,4 @@
--- `display::table::write_answer` meets its contract. The tests in their order.
+-- `display_texts::table::write_answer` meets its contract. The tests in their order.
 use Prim.Native.Nat.{_+_}
 use native.Mathlib.Omega.{arith}
 use Rattle.message_rules.specs.Message.{tableCode}
@@ -6,8 +6,8 @@ use Rattle.display_rules.specs.Limits.{tableRoom}
 use Rattle.display_rules.specs.Table.{writeAnswer}
 use borrow.Author.Tests.{eq-eqb, ne-eqb, lt-leb, le-leb}
 use borrow.Author.Needs.{needs}
-use Rattle.display.proofs.table.write_answer.Statement.{statement}
-use Rattle.display.proofs.table.write_answer.Tie as tie
+use Rattle.display_texts.proofs.table.write_answer.Statement.{statement}
+use Rattle.display_texts.proofs.table.write_answer.Tie as tie
 
 returns : tie.Need-returns
 unfolding writeAnswer

@@ -1,10 +1,10 @@
--- `display::table::put` meets its contract. The copy goes into the part of the buffer from the offset on.
+-- `display_texts::table::put` meets its contract. The copy goes into the part of the buffer from the offset on.
 use mathlib.Core.Path.{refl}
 use lib.ListN.{length}
-use Rattle.display.proofs.Laws.{put-is}
+use Rattle.display_texts.proofs.Laws.{put-is}
 use borrow.Author.Needs.{needs}
-use Rattle.display.proofs.table.put.Statement.{statement}
-use Rattle.display.proofs.table.put.Tie as tie
+use Rattle.display_texts.proofs.table.put.Statement.{statement}
+use Rattle.display_texts.proofs.table.put.Tie as tie
 
 sub-copy : tie.Need-sub-copy
 sub-copy c = search needs

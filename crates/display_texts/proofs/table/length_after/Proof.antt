@@ -1,9 +1,9 @@
--- `display::table::length_after` meets its contract. The tests in their order.
+-- `display_texts::table::length_after` meets its contract. The tests in their order.
 use Rattle.display_rules.specs.Table.{lengthAfter}
 use borrow.Author.Tests.{eq-eqb, ne-eqb, lt-ltb, le-ltb}
 use borrow.Author.Needs.{needs}
-use Rattle.display.proofs.table.length_after.Statement.{statement}
-use Rattle.display.proofs.table.length_after.Tie as tie
+use Rattle.display_texts.proofs.table.length_after.Statement.{statement}
+use Rattle.display_texts.proofs.table.length_after.Tie as tie
 
 returns : tie.Need-returns
 unfolding lengthAfter

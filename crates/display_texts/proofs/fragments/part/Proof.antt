@@ -1,12 +1,12 @@
--- `display::fragments::part` meets its contract. By the place of the start and the end in the slice.
+-- `display_texts::fragments::part` meets its contract. By the place of the start and the end in the slice.
 use mathlib.Core.Path.{_≡_, sym, _∙_}
 use Prim.Native.Nat.{_+_, _-_}
 use native.Mathlib.Omega.{arith}
 use lib.ListN.{length, drop, length-drop, drop-of-length-le}
 use lib.Seq.{take-all, take-nil}
 use borrow.Author.Needs.{needs}
-use Rattle.display.proofs.fragments.part.Statement.{statement}
-use Rattle.display.proofs.fragments.part.Tie as tie
+use Rattle.display_texts.proofs.fragments.part.Statement.{statement}
+use Rattle.display_texts.proofs.fragments.part.Tie as tie
 
 slice-aggregate-result : tie.Need-slice-aggregate-result
 slice-aggregate-result c = search needs

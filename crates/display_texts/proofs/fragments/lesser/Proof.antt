@@ -1,7 +1,7 @@
--- `display::fragments::lesser` meets its contract. The test decides.
+-- `display_texts::fragments::lesser` meets its contract. The test decides.
 use borrow.Author.Tests.{lt-ltb, le-ltb}
-use Rattle.display.proofs.fragments.lesser.Statement.{statement}
-use Rattle.display.proofs.fragments.lesser.Tie as tie
+use Rattle.display_texts.proofs.fragments.lesser.Statement.{statement}
+use Rattle.display_texts.proofs.fragments.lesser.Tie as tie
 
 returns : tie.Need-returns
 returns c = rw (lt-ltb _ _ (c .if1 .taken))

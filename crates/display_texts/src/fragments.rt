@@ -8,7 +8,7 @@ use display_rules::TextState;
 use message_rules::TextKind;
 use message_rules::TextOffset;
 
-pub(crate) fn lesser(a: u16, b: u16) -> u16
+pub fn lesser(a: u16, b: u16) -> u16
     ensures { λ r. ⌜ r ≡ lesser a b ⌝ }
 {
     if a < b { a } else { b }
@@ -29,7 +29,7 @@ fn next_offset(c: FragmentCursor, q: TextOffset) -> TextOffset
 }
 
 // The fragment that a read at the offset q finds.
-pub(crate) fn next_cursor(size: u16, t: TextState, q: TextOffset) -> FragmentCursor
+pub fn next_cursor(size: u16, t: TextState, q: TextOffset) -> FragmentCursor
     ensures { λ r. ⌜ r ≡ nextCursor size t (q .0) ⌝ }
 {
     let cursor = t.cursor;

@@ -1,12 +1,12 @@
--- `display::fragments::next_cursor` meets its contract. Past the end nothing is left.
+-- `display_texts::fragments::next_cursor` meets its contract. Past the end nothing is left.
 use mathlib.Core.Path.{_≡_}
 use Prim.Native.Nat.{_-_}
 use native.Mathlib.Omega.{arith}
 use borrow.Author.Tests.{le-ltb}
 use Rattle.display_rules.specs.Fragments.{nextOffset, nextCursor}
 use borrow.Author.Needs.{needs}
-use Rattle.display.proofs.fragments.next_cursor.Statement.{statement}
-use Rattle.display.proofs.fragments.next_cursor.Tie as tie
+use Rattle.display_texts.proofs.fragments.next_cursor.Statement.{statement}
+use Rattle.display_texts.proofs.fragments.next_cursor.Tie as tie
 
 next-offset-requires : tie.Need-next-offset-requires
 next-offset-requires c κs = search needs

@@ -1,15 +1,11 @@
 // Writing the table.
 ghost use mathlib.Core.Path.{_≡_};
-ghost use mathlib.Core.List.{List};
-ghost use Prim.Native.Nat.{ℕ, _+_, _≤_, _<_};
+ghost use Prim.Native.Nat.{_+_, _≤_, _<_};
 ghost use lib.ListN.{length};
 ghost use Rattle.display_rules.specs.Limits.{tableRoom};
 ghost use Rattle.display_rules.specs.State.{unsent};
-ghost use Rattle.display_rules.specs.Table.{writeAnswer, lengthAfter, written, tableWriteTurn};
-ghost use Rattle.display_rules.specs.Step.{outcome, left};
-ghost use Rattle.display_rules.specs.declared.Display.{Display};
-ghost use Rattle.display.specs.Changes.{stepped};
-use crate::changes::Pending;
+ghost use Rattle.display_rules.specs.Table.{writeAnswer, lengthAfter, written};
+ghost use Rattle.display_texts.specs.Writes.{Writes};
 use display_rules::FragmentCursor;
 use display_rules::TextState;
 use display_rules::limits::TABLE_ROOM;
@@ -17,8 +13,14 @@ use message_rules::TABLE_CODE;
 use message_rules::TextOffset;
 use message_rules::answer;
 
+// What a write comes to: an answer number, and the table's length afterwards.
+pub struct Writing {
+    pub answer: u8,
+    pub length: u16,
+}
+
 // A text of which nothing was sent.
-pub(crate) fn unsent(length: u16) -> TextState
+pub fn unsent(length: u16) -> TextState
     ensures { λ r. ⌜ r ≡ unsent length ⌝ }
 {
     TextState {
@@ -66,15 +68,27 @@ fn put(data: &[u8], at: usize, table: &mut [u8])
     bytes::copy(data, &mut table[at..]);
 }
 
-// A Table write, to a table of `old` bytes.
-pub(crate) fn write(old: u16, table: &mut [u8], code: u8, at: TextOffset, data: &[u8]) -> Pending
-    requires { ⌜ length (now table) ≡ tableRoom ⌝ }
-    ensures { λ r. ⌜ ((d : Display) (out : List ℕ) → d .table .length ≡ old → left (stepped d r) (now (table .exit)) out ≡ outcome (tableWriteTurn d (now (table .entry)) code (at .0) (now («data» .entry))) out) ⌝ }
+// A write of the bytes at an offset of a table of `old` bytes, into the table's buffer. A buffer that is too small, which no step passes on, is left as it was.
+pub fn write(old: u16, table: &mut [u8], code: u8, at: TextOffset, data: &[u8]) -> Writing
+    ensures { λ r. ⌜ (tableRoom ≤ length (now (table .entry)) → Writes old code (at .0) (now («data» .entry)) (now (table .entry)) (now (table .exit)) r) ⌝ }
 {
+    if table.len() < TABLE_ROOM {
+        return Writing {
+            answer: answer::WRONG_SIZE,
+            length: old,
+        };
+    }
     let answer = write_answer(code, old, at.0, data.len());
     if answer == answer::DONE {
         put(data, at.0 as usize, table);
-        return Pending::Written(length_after(old, at.0, data.len() as u16));
+        let length = length_after(old, at.0, data.len() as u16);
+        return Writing {
+            answer: answer,
+            length: length,
+        };
     }
-    Pending::Refused(answer, 0)
+    Writing {
+        answer: answer,
+        length: old,
+    }
 }

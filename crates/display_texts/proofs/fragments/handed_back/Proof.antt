@@ -1,7 +1,7 @@
--- `display::fragments::handed_back` meets its contract. The part is one of the text that the cursor is of.
+-- `display_texts::fragments::handed_back` meets its contract. The part is one of the text that the cursor is of.
 use borrow.Author.Needs.{needs}
-use Rattle.display.proofs.fragments.handed_back.Statement.{statement}
-use Rattle.display.proofs.fragments.handed_back.Tie as tie
+use Rattle.display_texts.proofs.fragments.handed_back.Statement.{statement}
+use Rattle.display_texts.proofs.fragments.handed_back.Tie as tie
 
 enum-told : tie.Need-enum-told
 enum-told c = search needs

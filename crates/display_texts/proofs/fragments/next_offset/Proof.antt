@@ -1,4 +1,4 @@
--- `display::fragments::next_offset` meets its contract. The offset of the cursor and its end are compared in turn.
+-- `display_texts::fragments::next_offset` meets its contract. The offset of the cursor and its end are compared in turn.
 use mathlib.Core.Path.{_≡_}
 use mathlib.Core.Bool.{true, false}
 use Prim.Native.Nat.{_+_}
@@ -6,8 +6,8 @@ use lib.Dec.{eqb}
 use borrow.Author.Tests.{eq-eqb, ne-eqb}
 use Rattle.display_rules.specs.Fragments.{nextOffset}
 use borrow.Author.Needs.{needs}
-use Rattle.display.proofs.fragments.next_offset.Statement.{statement}
-use Rattle.display.proofs.fragments.next_offset.Tie as tie
+use Rattle.display_texts.proofs.fragments.next_offset.Statement.{statement}
+use Rattle.display_texts.proofs.fragments.next_offset.Tie as tie
 
 returns : tie.Need-returns
 unfolding nextOffset

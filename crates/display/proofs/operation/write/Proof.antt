@@ -1,0 +1,34 @@
+-- `display::operation::write` meets its contract. Bytes, length and cursor change where the answer is 0.
+use mathlib.Core.Path.{sym, _∙_}
+use native.Mathlib.Omega.{arith}
+use borrow.Author.Tests.{ne-eqb}
+use Rattle.display_rules.specs.Table.{tableWriteTurn}
+use borrow.Author.Needs.{needs}
+use Rattle.display.proofs.operation.write.Statement.{statement}
+use Rattle.display.proofs.operation.write.Tie as tie
+
+write-requires : tie.Need-write-requires
+write-requires c κs = search needs
+
+same-length : tie.Need-same-length
+same-length c = search needs
+
+returns : tie.Need-returns
+unfolding tableWriteTurn
+returns c =
+    let w = c .before .before .before .before .write .ensures (omega (arith, c .before .before .before .before .before .before .before .before .pre)) in
+    let done = c .if1 .taken in
+    λ d out same. rw (same, ← w .answers, done, w .lengthens done, rw done at (w .leaves))
+
+same-length-2 : tie.Need-same-length-2
+same-length-2 c = search needs
+
+returns-2 : tie.Need-returns-2
+unfolding tableWriteTurn
+returns-2 c =
+    let w = c .before .before .before .before .write .ensures (omega (arith, c .before .before .before .before .before .before .before .before .pre)) in
+    let refused = ne-eqb _ _ (c .if1 .left) in
+    λ d out same. rw (same, ← w .answers, refused, rw refused at (w .leaves))
+
+pub write-spec : {M : Type 1} → statement M
+write-spec = tie.close (tie.spec write-requires same-length returns same-length-2 returns-2)

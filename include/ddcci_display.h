@@ -29,7 +29,7 @@ typedef struct {
     uint16_t vertical;
 } ddcci_display_timing;
 
-/* What is kept for each code 0 to 255: five sets of codes, one bit a code, and the values. */
+/* What is kept for each code 0 to 255: five sets of codes, one bit a code, and the values; with the timing's fields between the arrays. */
 typedef struct {
     uint64_t declared[4];
     uint64_t readable[4];
@@ -37,9 +37,11 @@ typedef struct {
     uint64_t momentary[4];
     uint64_t continuous[4];
     uint16_t maximum[256];
+    uint16_t horizontal;
     uint16_t saved[256];
-    ddcci_display_timing timing;
+    uint16_t vertical;
     uint16_t present[256];
+    uint8_t status;
 } ddcci_display_settings;
 
 /* A text's length, and the offset and the length of the fragment that was sent last. */

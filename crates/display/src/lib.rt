@@ -142,8 +142,8 @@ fn obey(
             operation::set(settings, code, value)
         }
         RequestRead::Timing => {
-            let timing = d.settings.timing;
-            operation::timing(timing, out)
+            let s = d.settings;
+            operation::timing(s.status, s.horizontal, s.vertical, out)
         }
         RequestRead::Save => Pending::Save,
         RequestRead::Text(q) => {

@@ -12,7 +12,7 @@ use Rattle.message_rules.specs.Answer.{done, wrongSize, wrongField, codeNotAllo
 use Rattle.message_rules.specs.Message.{Request, get, set, timing, save, text, tableRead, tableWrite, requests, decode, null, toDisplay, toHost}
 use Rattle.message_rules.specs.Read.{Read, ok, refused}
 use Rattle.message_rules.specs.Message.{tableCode}
-use Rattle.settings.specs.Settings.{reservedBits, declareCode, setAnswer, setCode, withPresent, saveAll}
+use Rattle.settings.specs.Settings.{reservedBits, declareCode, setAnswer, setCode, withPresent, saveAll, timingIn}
 use Rattle.settings.proofs.Theorems.{counts-the-declared, declaring-counts-one, refused-declare-keeps}
 use Rattle.settings.specs.declared.Settings.{Settings}
 use Rattle.display_rules.specs.State.{declare}
@@ -58,9 +58,9 @@ set-same d table c v = go (eqb (setAnswer (d .settings) c v) done && not (member
 
 timing-same : (d : Display) (table : List ℕ) → Same d (timingTurn d table)
 unfolding timingTurn
-timing-same d table = go (eqb (reservedBits (d .settings .timing .status)) 0)
+timing-same d table = go (eqb (reservedBits (d .settings .status)) 0)
   where
-    go : (t : Bool) → Same d (cond t (accepted d table (bytesOf (timingOf (d .settings .timing)))) (refusal wrongField d table noReply))
+    go : (t : Bool) → Same d (cond t (accepted d table (bytesOf (timingOf (timingIn (d .settings))))) (refusal wrongField d table noReply))
     go true = refl
     go false = refl
 

@@ -12,7 +12,7 @@ use Rattle.message_rules.specs.Read.{Read, ok, refused, unless}
 use Rattle.message_rules.proofs.Order.{null-read}
 use Rattle.message_builder.specs.Output.{over}
 use Rattle.message_rules.specs.Message.{tableCode}
-use Rattle.settings.specs.Settings.{reservedBits, setCode, setAnswer, answerToSet}
+use Rattle.settings.specs.Settings.{reservedBits, setCode, setAnswer, answerToSet, timingIn}
 use Rattle.display_rules.specs.Limits.{tableRoom}
 use Rattle.display_rules.specs.State.{unsent, withTable}
 use Rattle.display_rules.specs.Turn.{Turn, refusal, accepted, noReply, bytesOf, timingOf, getTurn, setTurn, saveTurn, timingTurn}
@@ -65,10 +65,10 @@ module _ (d : Display) (lent table out : List ℕ) where
 
   of-timing : (outcome (timingTurn d table) out .answer ≡ done → ⊥) → NothingChanged d table out (ok timing) (outcome (timingTurn d table) out)
   unfolding timingTurn
-  of-timing = go (eqb (reservedBits (d .settings .timing .status)) 0)
+  of-timing = go (eqb (reservedBits (d .settings .status)) 0)
     where
-      go : (t : Bool) → (outcome (cond t (accepted d table (bytesOf (timingOf (d .settings .timing)))) (refusal wrongField d table noReply)) out .answer ≡ done → ⊥)
-          → NothingChanged d table out (ok timing) (outcome (cond t (accepted d table (bytesOf (timingOf (d .settings .timing)))) (refusal wrongField d table noReply)) out)
+      go : (t : Bool) → (outcome (cond t (accepted d table (bytesOf (timingOf (timingIn (d .settings))))) (refusal wrongField d table noReply)) out .answer ≡ done → ⊥)
+          → NothingChanged d table out (ok timing) (outcome (cond t (accepted d table (bytesOf (timingOf (timingIn (d .settings))))) (refusal wrongField d table noReply)) out)
       go true h = absurd (h refl)
       go false h = record { display = refl; table = refl; found = refl; length = refl; out = refl }
 

@@ -18,7 +18,7 @@ use Rattle.message_rules.proofs.RoundTrip.{requests-round}
 use Rattle.message_rules.proofs.Tests.{cond-zero}
 use Rattle.settings.specs.Entries as entries
 use Rattle.message_rules.specs.Message.{tableCode}
-use Rattle.settings.specs.Settings.{reservedBits, startWith}
+use Rattle.settings.specs.Settings.{reservedBits, startWith, timingIn}
 use Rattle.settings.proofs.Theorems.{start-is-sound, empty-is-sound, declare-keeps-sound, set-keeps-sound, save-keeps-sound}
 use Rattle.profile_rules.proofs.Theorems.{load-keeps-sound}
 use Rattle.settings.specs.declared.Settings.{Settings}
@@ -135,9 +135,9 @@ after-write d table c at s z = go (eqb (writeAnswer c (d .table .length) at (len
 
 after-timing : (d : Display) (table : List ℕ) → Sound d → Sound (timingTurn d table .display)
 unfolding timingTurn
-after-timing d table z = go (eqb (reservedBits (d .settings .timing .status)) 0)
+after-timing d table z = go (eqb (reservedBits (d .settings .status)) 0)
   where
-    go : (t : Bool) → Sound (cond t (accepted d table (bytesOf (timingOf (d .settings .timing)))) (refusal wrongField d table noReply) .display)
+    go : (t : Bool) → Sound (cond t (accepted d table (bytesOf (timingOf (timingIn (d .settings))))) (refusal wrongField d table noReply) .display)
     go true = z
     go false = z
 

@@ -12,7 +12,7 @@ use Rattle.message_rules.specs.Answer.{done, wrongSize, wrongField, codeNotAllo
 use Rattle.message_rules.specs.Message.{Request, get, set, timing, save, text, tableRead, tableWrite, requests, decode, null, toDisplay, toHost}
 use Rattle.message_rules.specs.Read.{Read, ok, refused}
 use Rattle.message_rules.specs.Message.{tableCode}
-use Rattle.settings.specs.Settings.{reservedBits}
+use Rattle.settings.specs.Settings.{reservedBits, timingIn}
 use Rattle.display_rules.specs.Limits.{tableRoom}
 use Rattle.display_rules.specs.State.{cursorOf}
 use Rattle.display_rules.specs.Turn.{Turn, refusal, accepted, noReply, bytesOf, timingOf, getTurn, setTurn, saveTurn, timingTurn}
@@ -119,9 +119,9 @@ table-write-keeps d lent table c at s = go (eqb (writeAnswer c (d .table .length
 
 timing-keeps : (k : TextKind) (d : Display) (lent table : List ℕ) → Keeps k d lent table (timingTurn d table)
 unfolding timingTurn
-timing-keeps k d lent table = go (eqb (reservedBits (d .settings .timing .status)) 0)
+timing-keeps k d lent table = go (eqb (reservedBits (d .settings .status)) 0)
   where
-    go : (t : Bool) → Keeps k d lent table (cond t (accepted d table (bytesOf (timingOf (d .settings .timing)))) (refusal wrongField d table noReply))
+    go : (t : Bool) → Keeps k d lent table (cond t (accepted d table (bytesOf (timingOf (timingIn (d .settings))))) (refusal wrongField d table noReply))
     go true = (refl, refl)
     go false = (refl, refl)
 

@@ -27,6 +27,7 @@ use Rattle.display_rules.specs.Table.{written}
 use Rattle.display_rules.specs.Step.{Outcome, lentWell}
 use Rattle.message_rules.specs.declared.TextKind.{TextKind}
 use Rattle.message_rules.specs.declared.TextKind.the-variants.{Capabilities, Table}
+use Rattle.settings.specs.Settings.{timingIn}
 use Rattle.display_rules.specs.declared.TextState.{TextState}
 use Rattle.display_rules.specs.declared.Display.{Display}
 use Rattle.display_rules.specs.declared.Found.the-variants.{Nothing}
@@ -170,7 +171,7 @@ WritesGoIn step = (d : Display) (lent table message out : List ℕ) (at : ℕ) (
 abbrev pub TimingSent : StepRule → Type 0
 TimingSent step = (d : Display) (lent table out : List ℕ) → Made step d → lentWell d (length lent) (length table) (length out) ≡ true
     → (step d lent table (encode requests toDisplay timing) out .answer ≡ done)
-    × (step d lent table (encode requests toDisplay timing) out .out ≡ over (bytesOf (timingOf (d .settings .timing))) out)
+    × (step d lent table (encode requests toDisplay timing) out .out ≡ over (bytesOf (timingOf (timingIn (d .settings)))) out)
 
 -- ---- the number declared
 

@@ -5,7 +5,7 @@ use mathlib.Core.List.{List, []}
 use lib.Dec.{eqb}
 use Rattle.message_rules.specs.Answer.{done, wrongField}
 use Rattle.message_rules.specs.Message.{Reply, value, timingReply, replies, encode, toHost}
-use Rattle.settings.specs.Settings.{reservedBits, getCode, setCode, saveAll}
+use Rattle.settings.specs.Settings.{reservedBits, getCode, setCode, saveAll, timingIn}
 use Rattle.settings.specs.declared.Feature.{Feature}
 use Rattle.settings.specs.declared.Timing.{Timing}
 use Rattle.display_rules.specs.State.{withSettings}
@@ -62,6 +62,6 @@ saveTurn d table = accepted (withSettings d (saveAll (d .settings))) table noRep
 -- "Timing: the Timing reply." No start makes a display whose timing has a reserved bit set; the builder refuses such a one (7).
 unfoldable pub timingTurn : Display → List ℕ → Turn
 timingTurn d table =
-    cond (eqb (reservedBits (d .settings .timing .status)) 0)
-    (accepted d table (bytesOf (timingOf (d .settings .timing))))
+    cond (eqb (reservedBits (d .settings .status)) 0)
+    (accepted d table (bytesOf (timingOf (timingIn (d .settings)))))
     (refusal wrongField d table noReply)

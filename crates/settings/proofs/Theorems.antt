@@ -163,16 +163,16 @@ made-within : (s : Settings) (d : Declaration) → Accepted s d → Within (entr
 unfolding entryDeclared
 made-within s d a = record { present = at-most _ _ _ (a .within); saved = at-most _ _ _ (a .within) }
 
-declaration-timing : (s : Settings) (d : Declaration) → withDeclaration s d .timing ≡ s .timing
+declaration-status : (s : Settings) (d : Declaration) → withDeclaration s d .status ≡ s .status
 unfolding withDeclaration
-declaration-timing s d = refl
+declaration-status s d = refl
 
 declaration-sound : (s : Settings) (d : Declaration) → d .code < allCodes → Accepted s d → Sound s → Sound (withDeclaration s d)
 declaration-sound s d h a o = record {
   sized = declaration-sized s d (o .sized);
   table = rw (declaration-stored s d (o .sized) h tableCode, ne-eqb tableCode (d .code) (λ e. eqb-false _ _ (a .code) (sym e))) (o .table);
   within = λ c. rw (declaration-stored s d (o .sized) h c) (chosen Within (eqb c (d .code)) (entryDeclared d) (entryOf s c) (λ e. made-within s d a) (λ e. o .within c));
-  timing = rw (declaration-timing s d) (o .timing);
+  timing = rw (declaration-status s d) (o .timing);
 }
 
 pub declare-keeps-sound : DeclareKeepsSound
@@ -191,9 +191,9 @@ present-declared : (s : Settings) (c value d : ℕ) → entryOf (withPresent s c
 unfolding entryOf withPresent
 present-declared s c value d = refl
 
-present-timing : (s : Settings) (c value : ℕ) → withPresent s c value .timing ≡ s .timing
+present-status : (s : Settings) (c value : ℕ) → withPresent s c value .status ≡ s .status
 unfolding withPresent
-present-timing s c value = refl
+present-status s c value = refl
 
 present-sound : (s : Settings) (c value : ℕ) → c < allCodes → Settable s c value → Sound s → Sound (withPresent s c value)
 present-sound s c value h a o = record {
@@ -201,7 +201,7 @@ present-sound s c value h a o = record {
   table = present-declared s c value tableCode ∙ o .table;
   within = λ d. rw (present-stored s c value (o .sized) h d) (chosen Within (eqb d c) (entryPresent (entryOf s d) value) (entryOf s d)
       (λ e. rw (eqb-true d c e) (set-within s c value a (o .within c))) (λ e. o .within d));
-  timing = rw (present-timing s c value) (o .timing);
+  timing = rw (present-status s c value) (o .timing);
 }
 
 pub set-keeps-sound : SetKeepsSound

@@ -93,4 +93,4 @@ pub record Sound (s : Settings) : Type 0 where
   pub sized : Sized s
   pub table : entryOf s tableCode .declared ≡ false
   pub within : (c : ℕ) → Within (entryOf s c)
-  pub timing : reservedBits (s .timing .status) ≡ 0
+  pub timing : reservedBits (s .status) ≡ 0

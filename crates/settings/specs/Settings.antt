@@ -33,12 +33,18 @@ startingSettings timing = record {
   maximum = replicate allCodes 0;
   present = replicate allCodes 0;
   saved = replicate allCodes 0;
-  timing = timing;
+  status = timing .status;
+  horizontal = timing .horizontal;
+  vertical = timing .vertical;
 }
 
 -- "an empty board (no code, .. timing 0, ..)"
 abbrev pub emptySettings : Settings
 emptySettings = startingSettings (record { status = 0; horizontal = 0; vertical = 0 })
+
+-- the timing that the settings keep
+abbrev pub timingIn : Settings → Timing
+timingIn s = record { status = s .status; horizontal = s .horizontal; vertical = s .vertical }
 
 -- "status bits 5 to 2"
 abbrev pub reservedBits : ℕ → ℕ
@@ -80,7 +86,9 @@ withDeclaration s d = record {
   maximum = set (s .maximum) (d .code) (d .maximum);
   present = set (s .present) (d .code) (d .present);
   saved = set (s .saved) (d .code) (d .present);
-  timing = s .timing;
+  status = s .status;
+  horizontal = s .horizontal;
+  vertical = s .vertical;
 }
 
 unfoldable pub declareCode : Settings → Declaration → Change
@@ -120,7 +128,9 @@ withPresent s c value = record {
   maximum = s .maximum;
   present = set (s .present) c value;
   saved = s .saved;
-  timing = s .timing;
+  status = s .status;
+  horizontal = s .horizontal;
+  vertical = s .vertical;
 }
 
 -- "Momentary: accepted, nothing stored."
@@ -147,5 +157,7 @@ saveAll s = record {
   maximum = s .maximum;
   present = s .present;
   saved = s .present;
-  timing = s .timing;
+  status = s .status;
+  horizontal = s .horizontal;
+  vertical = s .vertical;
 }

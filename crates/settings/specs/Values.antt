@@ -15,7 +15,9 @@ withValue s c value = record {
   maximum = s .maximum;
   present = set (s .present) c value;
   saved = set (s .saved) c value;
-  timing = s .timing;
+  status = s .status;
+  horizontal = s .horizontal;
+  vertical = s .vertical;
 }
 
 -- an entry with another value, present and saved

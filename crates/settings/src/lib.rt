@@ -23,7 +23,8 @@ pub struct Timing {
     pub vertical: u16,
 }
 
-// What a device keeps for each code 0 to 255, and its timing. The timing stands before the present values so that they are an end of the struct on their own: where a Set replaces them, the rest is copied as one.
+// What a device keeps for each code 0 to 255, and the three fields of its timing. These stand between the arrays: a number in between makes the compiler copy the arrays one by one, and not through a copy of the whole, where a Set
+// or a Save puts another array in the place of one.
 #[repr(C)]
 pub struct Settings {
     pub declared: [u64; 4],
@@ -32,9 +33,11 @@ pub struct Settings {
     pub momentary: [u64; 4],
     pub continuous: [u64; 4],
     pub maximum: [u16; 256],
+    pub horizontal: u16,
     pub saved: [u16; 256],
-    pub timing: Timing,
+    pub vertical: u16,
     pub present: [u16; 256],
+    pub status: u8,
 }
 
 // What is said of a code when it is declared. The kind is the type: 0 (kept) or 1 (momentary).
@@ -83,7 +86,9 @@ fn starting(timing: Timing) -> Settings
         maximum: [0u16; 256],
         present: [0u16; 256],
         saved: [0u16; 256],
-        timing: timing,
+        status: timing.status,
+        horizontal: timing.horizontal,
+        vertical: timing.vertical,
     }
 }
 

@@ -140,9 +140,11 @@ pub struct Settings {
     pub momentary: [u64; 4],
     pub continuous: [u64; 4],
     pub maximum: [u16; 256],
+    pub horizontal: u16,
     pub saved: [u16; 256],
-    pub timing: Timing,
+    pub vertical: u16,
     pub present: [u16; 256],
+    pub status: u8,
 }
 
 /// A text's length, and the offset and the length of the fragment that was sent last.

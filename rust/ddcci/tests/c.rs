@@ -21,15 +21,15 @@ text at 0: answer 0, reply 6E 88 E3 00 00 28 76 63 70 28 30, text 1, 5 bytes fro
 text at 5: answer 0, reply 6E 88 E3 00 05 31 30 20 46 34 03, text 1, 5 bytes from 5
 ";
 
-/// The bytes that a step gives to `memcpy`, by the message: three quarters of a display's 1,720 bytes are the three arrays, and 1,696 is one copy of all but its last numbers, which are moved one by one. An array of 512 that is
-/// read or stored to at a variable index is copied for it: two for a Get, one to judge a Set and one to store its value. A Save copies `saved` and what stands before it in the settings once more.
+/// The bytes that a step gives to `memcpy`, by the message. 1,696 is one copy of a display of 1,720 bytes; its single numbers are moved one by one. An array of 512 bytes that is read or stored to at a variable index is
+/// copied for it: two for a Get, one to judge a Set of a continuous code, and one to store the value of a Set.
 const COPIES: [(&str, usize); 11] = [
     ("get: answer 0", 2720),
     ("get of an undeclared code: answer 0", 1696),
     ("set: answer 0", 2720),
     ("set above the maximum: answer 9", 2208),
     ("set of an undeclared code: answer 8", 1696),
-    ("save: answer 0", 2880),
+    ("save: answer 0", 1696),
     ("timing: answer 0", 1696),
     ("text: answer 0", 1696),
     ("table write: answer 0", 1696),

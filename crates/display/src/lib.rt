@@ -133,26 +133,30 @@ fn obey(
     ensures { λ r. ⌜ left (stepped d r) (now (table .exit)) (now (out .exit)) ≡ outcome (turnOf d (now (text .entry)) (now (table .entry)) (requestIn (now (message .entry)) request)) (now (out .entry)) ⌝ }
 {
     match request {
-        RequestRead::Get(code) => {
-            let settings = d.settings;
-            Pending::Shown(operation::get(settings, code, out))
-        }
-        RequestRead::Set(code, value) => {
-            let settings = d.settings;
-            operation::set(settings, code, value)
-        }
+        RequestRead::Get(code) => Pending::Shown(operation::get(d.settings, code, out)),
+        RequestRead::Set(code, value) => operation::set(d.settings, code, value),
         RequestRead::Timing => {
-            let s = d.settings;
-            operation::timing(s.status, s.horizontal, s.vertical, out)
+            operation::timing(
+                d.settings.status,
+                d.settings.horizontal,
+                d.settings.vertical,
+                out,
+            )
         }
         RequestRead::Save => Pending::Save,
         RequestRead::Text(q) => {
-            let state = d.capabilities;
-            operation::read(TextKind::Capabilities, state, d.size, text, table, q, out)
+            operation::read(
+                TextKind::Capabilities,
+                d.capabilities,
+                d.size,
+                text,
+                table,
+                q,
+                out,
+            )
         }
         RequestRead::TableRead(code, q) => {
-            let state = d.table;
-            operation::table_read(state, d.size, text, table, code, q, out)
+            operation::table_read(d.table, d.size, text, table, code, q, out)
         }
         RequestRead::TableWrite(code, at, position, n) => {
             let from = position.0;

@@ -70,16 +70,16 @@ same-length c = search needs
 
 returns : tie.Need-returns
 unfolding getTurn
-returns c = rw (c .before .before .before .before .before .before .request .given .1, c .before .before .get .ensures .counted, c .before .before .get .ensures .leaves)
+returns c = rw (c .before .before .before .before .before .request .given .1, c .before .before .get .ensures .counted, c .before .before .get .ensures .leaves)
 
 returns-2 : tie.Need-returns-2
-returns-2 c = rw (c .before .before .before .request2 .given .1) (c .set .ensures (c .before .before .before .before .before .before .before .before .before .args .d) _ _ refl)
+returns-2 c = rw (c .before .before .request2 .given .1) (c .set .ensures (c .before .before .before .before .before .before .before .before .args .d) _ _ refl)
 
 same-length-2 : tie.Need-same-length-2
 same-length-2 c = search needs
 
 returns-3 : tie.Need-returns-3
-returns-3 c = rw (c .before .before .before .before .before .enum-told .given .1) (c .before .before .timing .ensures (c .before .before .before .before .before .before .before .before .before .before .before .args .d) _ refl refl refl)
+returns-3 c = rw (c .before .before .before .before .enum-told .given .1) (c .before .before .timing .ensures (c .before .before .before .before .before .before .before .before .before .before .args .d) _ refl refl refl)
 
 returns-4 : tie.Need-returns-4
 unfolding saveTurn
@@ -92,7 +92,7 @@ same-length-4 : tie.Need-same-length-4
 same-length-4 c = search needs
 
 returns-5 : tie.Need-returns-5
-returns-5 c = rw (c .before .before .before .before .before .before .before .request3 .given .1) (c .before .before .read .ensures (c .before .before .before .before .before .before .before .before .before .before .before .before .before .args .d) refl refl)
+returns-5 c = rw (c .before .before .before .before .before .before .request3 .given .1) (c .before .before .read .ensures (c .before .before .before .before .before .before .before .before .before .before .before .before .args .d) refl refl)
 
 same-length-5 : tie.Need-same-length-5
 same-length-5 c = search needs
@@ -101,7 +101,7 @@ same-length-6 : tie.Need-same-length-6
 same-length-6 c = search needs
 
 returns-6 : tie.Need-returns-6
-returns-6 c = rw (c .before .before .before .before .before .before .before .request4 .given .1) (c .before .before .table-read .ensures (c .before .before .before .before .before .before .before .before .before .before .before .before .before .args .d) refl refl)
+returns-6 c = rw (c .before .before .before .before .before .before .request4 .given .1) (c .before .before .table-read .ensures (c .before .before .before .before .before .before .before .before .before .before .before .before .args .d) refl refl)
 
 same-length-7 : tie.Need-same-length-7
 same-length-7 c = search needs

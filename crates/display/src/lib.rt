@@ -159,9 +159,7 @@ fn obey(
             operation::table_read(d.table, d.size, text, table, code, q, out)
         }
         RequestRead::TableWrite(code, at, position, n) => {
-            let from = position.0;
-            let data = &message[from..from + n];
-            operation::write(d.table.length, table, code, at, data)
+            operation::write(d.table.length, table, code, at, message, position.0, n)
         }
         RequestRead::Refused(answer) => operation::refuse(answer, out),
     }

@@ -2,8 +2,8 @@
 // with these parts.
 ghost use mathlib.Core.Path.{_≡_};
 ghost use mathlib.Core.List.{List};
-ghost use Prim.Native.Nat.{ℕ, _≤_};
-ghost use lib.ListN.{length};
+ghost use Prim.Native.Nat.{ℕ, _+_, _≤_};
+ghost use lib.ListN.{length, take, drop};
 ghost use Rattle.message_rules.specs.Limits.{outputRoom};
 ghost use Rattle.message_rules.specs.Read.{refused};
 ghost use Rattle.settings.specs.Settings.{getCode};
@@ -102,11 +102,20 @@ pub(crate) fn table_read<'a>(
     read(TextKind::Table, state, most, text, table, q, out)
 }
 
-// A write to the table, of `old` bytes.
-pub(crate) fn write(old: u16, table: &mut [u8], code: u8, at: TextOffset, data: &[u8]) -> Pending
-    requires { ⌜ length (now table) ≡ tableRoom ⌝ }
-    ensures { λ r. ⌜ ((d : Display) (out : List ℕ) → d .table .length ≡ old → left (stepped d r) (now (table .exit)) out ≡ outcome (tableWriteTurn d (now (table .entry)) code (at .0) (now («data» .entry))) out) ⌝ }
+// A write to the table, of `old` bytes. The data are the n bytes of the message from a number on.
+pub(crate) fn write(
+    old: u16,
+    table: &mut [u8],
+    code: u8,
+    at: TextOffset,
+    message: &[u8],
+    from: usize,
+    n: usize,
+) -> Pending
+    requires { ⌜ (length (now table) ≡ tableRoom) × (from + n ≤ length (now message)) ⌝ }
+    ensures { λ r. ⌜ ((d : Display) (out : List ℕ) → d .table .length ≡ old → left (stepped d r) (now (table .exit)) out ≡ outcome (tableWriteTurn d (now (table .entry)) code (at .0) (take n (drop from (now (message .entry))))) out) ⌝ }
 {
+    let data = &message[from..from + n];
     let writing = table::write(old, table, code, at, data);
     if writing.answer == answer::DONE {
         return Pending::Written(writing.length);

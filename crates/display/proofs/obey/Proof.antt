@@ -1,9 +1,6 @@
 -- `display::obey` meets its contract. Each arm of the match is the definition's case of what was read.
 use mathlib.Core.Path.{refl}
 use Rattle.display_rules.specs.Turn.{getTurn, saveTurn}
-use Rattle.display.proofs.Laws.{part-length}
-use Prim.Native.Nat.{_-_}
-use native.Mathlib.Omega.{arith}
 use borrow.Author.Needs.{needs}
 use Rattle.display.proofs.obey.Statement.{statement}
 use Rattle.display.proofs.obey.Tie as tie
@@ -44,20 +41,8 @@ table-read-requires c κs = search needs
 enum-known-request-5 : tie.Need-enum-known-request-5
 enum-known-request-5 c = search needs
 
-add-data : tie.Need-add-data
-add-data c = omega (arith, rw (c .before .request5 .given .1) at (c .before .before .before .before .before .before .before .pre .2))
-
-sub-data : tie.Need-sub-data
-sub-data c = search needs
-
-part-data-start : tie.Need-part-data-start
-part-data-start c = search needs
-
-part-data-end : tie.Need-part-data-end
-part-data-end c = omega (arith, rw (c .before .request5 .given .1) at (c .before .before .before .before .before .before .before .pre .2))
-
 write-requires : tie.Need-write-requires
-write-requires c κs = search needs
+write-requires c κs = (search needs, rw (c .before .before .request5 .given .1) at (c .before .before .before .before .before .before .before .before .pre .2) .1)
 
 enum-known-request-6 : tie.Need-enum-known-request-6
 enum-known-request-6 c = search needs
@@ -108,8 +93,8 @@ same-length-7 c = search needs
 
 returns-7 : tie.Need-returns-7
 returns-7 c =
-    let a = c .before .before .before .before .before .before .before .before .before .before .before .before .args in
-    rw (c .before .before .before .before .before .before .request5 .given .1) (rw part-length at (c .before .before .write .ensures (a .d) (a .out .now) refl))
+    let a = c .before .before .before .before .before .before .before .before .before .before .before .args in
+    rw (c .before .before .before .before .before .request5 .given .1) (c .before .before .write .ensures (a .d) (a .out .now) refl)
 
 same-length-8 : tie.Need-same-length-8
 same-length-8 c = search needs
@@ -135,10 +120,6 @@ obey-spec =
     enum-known-request-4
     table-read-requires
     enum-known-request-5
-    add-data
-    sub-data
-    part-data-start
-    part-data-end
     write-requires
     enum-known-request-6
     refuse-requires

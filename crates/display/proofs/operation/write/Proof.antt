@@ -1,11 +1,23 @@
 -- `display::operation::write` meets its contract. Bytes, length and cursor change where the answer is 0.
-use mathlib.Core.Path.{sym, _∙_}
 use native.Mathlib.Omega.{arith}
 use borrow.Author.Tests.{ne-eqb}
 use Rattle.display_rules.specs.Table.{tableWriteTurn}
+use Rattle.display.proofs.Laws.{part-length}
 use borrow.Author.Needs.{needs}
 use Rattle.display.proofs.operation.write.Statement.{statement}
 use Rattle.display.proofs.operation.write.Tie as tie
+
+add-data : tie.Need-add-data
+add-data c = omega arith
+
+sub-data : tie.Need-sub-data
+sub-data c = search needs
+
+part-data-start : tie.Need-part-data-start
+part-data-start c = search needs
+
+part-data-end : tie.Need-part-data-end
+part-data-end c = omega arith
 
 write-requires : tie.Need-write-requires
 write-requires c κs = search needs
@@ -16,7 +28,7 @@ same-length c = search needs
 returns : tie.Need-returns
 unfolding tableWriteTurn
 returns c =
-    let w = c .before .before .before .before .write .ensures (omega (arith, c .before .before .before .before .before .before .before .before .pre)) in
+    let w = rw part-length at (c .before .before .before .before .write .ensures (omega (arith, c .before .before .before .before .before .before .before .before .before .pre .0))) in
     let done = c .if1 .taken in
     λ d out same. rw (same, ← w .answers, done, w .lengthens done, rw done at (w .leaves))
 
@@ -26,9 +38,20 @@ same-length-2 c = search needs
 returns-2 : tie.Need-returns-2
 unfolding tableWriteTurn
 returns-2 c =
-    let w = c .before .before .before .before .write .ensures (omega (arith, c .before .before .before .before .before .before .before .before .pre)) in
+    let w = rw part-length at (c .before .before .before .before .write .ensures (omega (arith, c .before .before .before .before .before .before .before .before .before .pre .0))) in
     let refused = ne-eqb _ _ (c .if1 .left) in
     λ d out same. rw (same, ← w .answers, refused, rw refused at (w .leaves))
 
 pub write-spec : {M : Type 1} → statement M
-write-spec = tie.close (tie.spec write-requires same-length returns same-length-2 returns-2)
+write-spec =
+    tie.close
+    (tie.spec
+    add-data
+    sub-data
+    part-data-start
+    part-data-end
+    write-requires
+    same-length
+    returns
+    same-length-2
+    returns-2)

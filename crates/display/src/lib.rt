@@ -135,25 +135,11 @@ fn obey(
     match request {
         RequestRead::Get(code) => Pending::Shown(operation::get(d.settings, code, out)),
         RequestRead::Set(code, value) => operation::set(d.settings, code, value),
-        RequestRead::Timing => {
-            operation::timing(
-                d.settings.status,
-                d.settings.horizontal,
-                d.settings.vertical,
-                out,
-            )
-        }
+        RequestRead::Timing => operation::timing(d.settings, out),
         RequestRead::Save => Pending::Save,
         RequestRead::Text(q) => {
-            operation::read(
-                TextKind::Capabilities,
-                d.capabilities,
-                d.size,
-                text,
-                table,
-                q,
-                out,
-            )
+            let kind = TextKind::Capabilities;
+            operation::read(kind, d.capabilities, d.size, text, table, q, out)
         }
         RequestRead::TableRead(code, q) => {
             operation::table_read(d.table, d.size, text, table, code, q, out)

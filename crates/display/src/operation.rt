@@ -52,11 +52,11 @@ pub(crate) fn set(s: Settings, code: u8, value: u16) -> Pending
 }
 
 // The builder refuses (7) a timing with a reserved bit set, which no start lets in.
-pub(crate) fn timing(status: u8, horizontal: u16, vertical: u16, out: &mut [u8]) -> Pending
+pub(crate) fn timing(s: Settings, out: &mut [u8]) -> Pending
     requires { ⌜ outputRoom ≤ length (now out) ⌝ }
-    ensures { λ r. ⌜ ((d : Display) (table : List ℕ) → d .settings .status ≡ status → d .settings .horizontal ≡ horizontal → d .settings .vertical ≡ vertical → left (stepped d r) table (now (out .exit)) ≡ outcome (timingTurn d table) (now (out .entry))) ⌝ }
+    ensures { λ r. ⌜ ((d : Display) (table : List ℕ) → d .settings ≡ s → left (stepped d r) table (now (out .exit)) ≡ outcome (timingTurn d table) (now (out .entry))) ⌝ }
 {
-    let built = reply::build_timing_reply(TO_HOST, status, horizontal, vertical, out);
+    let built = reply::build_timing_reply(TO_HOST, s.status, s.horizontal, s.vertical, out);
     match built {
         Built::Done(n) => Pending::Told(answer::DONE, n),
         Built::Refused(answer) => Pending::Told(answer, 0),

@@ -64,7 +64,7 @@ same-length-2 : tie.Need-same-length-2
 same-length-2 c = search needs
 
 returns-3 : tie.Need-returns-3
-returns-3 c = rw (c .before .before .before .before .enum-told .given .1) (c .before .before .timing .ensures (c .before .before .before .before .before .before .before .before .before .before .args .d) _ refl refl refl)
+returns-3 c = rw (c .before .before .before .before .enum-told .given .1) (c .before .before .timing .ensures (c .before .before .before .before .before .before .before .before .before .before .args .d) _ refl)
 
 returns-4 : tie.Need-returns-4
 unfolding saveTurn

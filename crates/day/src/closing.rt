@@ -1,13 +1,13 @@
-// The end of the day: the settings are saved, a profile is written and tried, and the list is cleared.
+// 18:30: the settings are saved, a profile is written and tried, and the list is cleared.
 use crate::OUT;
-use crate::setup;
+use crate::adjusting;
+use crate::requests;
 use crate::site;
 use crate::site::Site;
-use message_builder::request;
-use message_rules::TO_DISPLAY;
+use crate::starting::BRIGHTNESS;
 use message_rules::answer;
-use message_rules::limits::OUTPUT_ROOM;
 use profile_rules::RECORD_SIZE;
+use settings::Settings;
 use show::part::behind;
 use show::part::front;
 
@@ -17,18 +17,10 @@ const PROFILE_ROOM: usize = RECORD_SIZE * 3;
 // The byte of the profile that is damaged: the kind of its second record.
 const DAMAGED: usize = 9;
 
-fn save(s: Site, text: &[u8], table: &mut [u8]) -> Site {
-    let mut m = [0u8; OUTPUT_ROOM];
-    let built = request::build_save(TO_DISPLAY, &mut m);
-    let after = site::send(
-        s,
-        text,
-        table,
-        front(&m, site::length_of(built)),
-        answer::DONE,
-    );
-    show::answered(OUT, b"    Save: ", after.answer);
-    after
+fn save(mut s: Site, text: &[u8]) -> Site {
+    s = site::ask(s, text, requests::save(), answer::DONE);
+    show::answered(OUT, b"    Save: ", s.answer);
+    s
 }
 
 // The answer to a load, with its place where it is refused.
@@ -41,21 +33,32 @@ fn loads(what: &[u8], answer: u8, place: usize) {
     show::text(OUT, b"\n");
 }
 
+fn with_settings(mut s: Site, settings: Settings) -> Site {
+    let mut d = s.display;
+    d.settings = settings;
+    s.display = d;
+    s
+}
+
 // Loads a profile; the answer and the position should be the ones wanted.
-fn load(mut s: Site, what: &[u8], profile: &[u8], wanted: u8, place: usize) -> Site {
+fn load(mut s: Site, what: &[u8], profile: [u8; PROFILE_ROOM], wanted: u8, place: usize) -> Site {
     let before = s.display.settings;
-    let loaded = profile::load(before, profile);
+    let loaded = profile::load(before, &profile);
     let position = loaded.position;
     let after = loaded.settings;
-    let mut d = s.display;
-    d.settings = after;
-    s.display = d;
+    s = with_settings(s, after);
     loads(what, loaded.answer, position.0);
-    site::also(site::also(s, loaded.answer == wanted), position.0 == place)
+    site::also(s, loaded.answer == wanted && position.0 == place)
 }
 
 fn word(low: u8, high: u8) -> u64 {
     low as u64 + high as u64 * 256
+}
+
+fn setting(code: u8, value: u64) {
+    show::text(OUT, b"   code ");
+    show::hex(OUT, code);
+    show::counted(OUT, b": ", value, b"\n");
 }
 
 // A record of the profile: its bytes, and what they say.
@@ -65,9 +68,7 @@ fn record(r: &[u8]) {
     }
     show::text(OUT, b"     ");
     show::row(OUT, r);
-    show::text(OUT, b"   code ");
-    show::hex(OUT, r[4]);
-    show::counted(OUT, b": ", word(r[5], r[6]), b"\n");
+    setting(r[4], word(r[5], r[6]));
 }
 
 // Brightness, contrast and input, of the first display.
@@ -81,68 +82,80 @@ fn records(number: u64, profile: &[u8]) {
 }
 
 // The profile as it is written.
-fn write(s: Site, number: u64, out: &mut [u8]) -> Site {
+struct Profile {
+    bytes: [u8; PROFILE_ROOM],
+    length: usize,
+    answer: u8,
+}
+
+fn written(s: Site) -> Profile {
     let settings = s.display.settings;
-    let written = profile::write(settings, out);
-    show::counted(
-        OUT,
-        b"    the profile has ",
-        written.length as u64,
-        b" bytes\n",
-    );
-    records(number, out);
-    site::also(s, written.answer == answer::DONE)
+    let mut out = [0u8; PROFILE_ROOM];
+    let written = profile::write(settings, &mut out);
+    Profile {
+        bytes: out,
+        length: written.length,
+        answer: written.answer,
+    }
+}
+
+fn report(number: u64, p: Profile) {
+    let bytes = p.bytes;
+    show::counted(OUT, b"    the profile has ", p.length as u64, b" bytes\n");
+    records(number, &bytes);
 }
 
 // A damaged copy, which is refused.
-fn damage(s: Site, profile: [u8; PROFILE_ROOM]) -> Site {
-    let mut broken = profile;
+fn damage(s: Site, p: Profile) -> Site {
+    let mut broken = p.bytes;
     broken[DAMAGED] = 2;
     load(
         s,
         b"    a damaged copy is loaded: ",
-        &broken,
+        broken,
         answer::BROKEN_PROFILE,
         RECORD_SIZE,
     )
 }
 
 // A change, and the profile loaded over it.
-fn restore(s: Site, text: &[u8], table: &mut [u8], profile: &[u8]) -> Site {
-    let a = setup::set(s, text, table, setup::BRIGHTNESS, 20, answer::DONE);
-    let b = load(
-        a,
+fn restore(mut s: Site, text: &[u8], p: Profile) -> Site {
+    s = adjusting::set(s, text, BRIGHTNESS, 20, answer::DONE);
+    let bytes = p.bytes;
+    s = load(
+        s,
         b"    the profile is loaded: ",
-        profile,
+        bytes,
         answer::DONE,
         PROFILE_ROOM,
     );
-    setup::get(b, text, table, setup::BRIGHTNESS, 70)
+    adjusting::get(s, text, BRIGHTNESS, 70)
 }
 
-fn profile(s: Site, number: u64, text: &[u8], table: &mut [u8]) -> Site {
-    let mut out = [0u8; PROFILE_ROOM];
-    let a = write(s, number, &mut out);
-    let b = damage(a, out);
-    restore(b, text, table, &out)
+fn try_profile(mut s: Site, number: u64, text: &[u8]) -> Site {
+    let p = written(s);
+    report(number, p);
+    s = site::also(s, p.answer == answer::DONE);
+    s = damage(s, p);
+    restore(s, text, p)
+}
+
+fn report_clear(left: usize, answer: u8) {
+    show::text(OUT, b"    the list is cleared, ");
+    show::number(OUT, left as u64, 0);
+    show::answered(OUT, b" bytes are left: ", answer);
 }
 
 // A Table write at offset 0 without data.
-fn clear(s: Site, text: &[u8], table: &mut [u8]) -> Site {
-    let after = setup::write(s, text, table, 0, b"");
-    let left = site::stored(after);
-    show::counted(
-        OUT,
-        b"    the list is cleared, ",
-        left as u64,
-        b" bytes are left: ",
-    );
-    show::answered(OUT, b"", after.answer);
-    site::also(after, left == 0)
+fn clear(mut s: Site, text: &[u8]) -> Site {
+    s = site::ask(s, text, requests::write(0, b""), answer::DONE);
+    let left = site::stored(s);
+    report_clear(left, s.answer);
+    site::also(s, left == 0)
 }
 
-pub(crate) fn close(s: Site, number: u64, text: &[u8], table: &mut [u8]) -> Site {
-    let a = save(s, text, table);
-    let b = profile(a, number, text, table);
-    clear(b, text, table)
+pub(crate) fn close(mut s: Site, number: u64, text: &[u8]) -> Site {
+    s = save(s, text);
+    s = try_profile(s, number, text);
+    clear(s, text)
 }

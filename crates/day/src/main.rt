@@ -1,23 +1,20 @@
 // A day at the water point, in one process: two displays, each at the end of its own bad line, from the tent's first message to dusk.
+mod adjusting;
 mod closing;
 mod line;
 mod list;
-mod setup;
+mod requests;
 mod site;
+mod starting;
+mod tally;
 mod transfers;
 mod tree_view;
+mod writing;
 
-use display_rules::limits::TABLE_ROOM;
 use site::Site;
 
 // Where the day is told.
 pub(crate) const OUT: i32 = libc::STDOUT_FILENO;
-
-// The two displays.
-struct Pair {
-    one: Site,
-    two: Site,
-}
 
 // How many tasks the day has. Each is done with one display, then with the other.
 const TASKS: usize = 5;
@@ -48,42 +45,23 @@ fn heading(task: usize) {
     }
 }
 
-fn perform(task: usize, number: u64, s: Site, text: &[u8], list: &[u8], table: &mut [u8]) -> Site {
+fn subheading(number: u64) {
     show::counted(OUT, b"  display ", number, b"\n");
+}
+
+fn perform(task: usize, number: u64, s: Site, text: &[u8], list: &[u8]) -> Site {
+    subheading(number);
     match task {
-        0 => setup::write_list(s, text, list, table),
-        1 => setup::settings(s, text, table),
-        2 => transfers::read_list(number, s, text, list, table),
-        3 => tree_view::read_capabilities(number, s, text, table),
-        _ => closing::close(s, number, text, table),
+        0 => writing::write_list(s, text, list),
+        1 => adjusting::settings(s, text),
+        2 => transfers::read_list(number, s, text, list),
+        3 => tree_view::read_capabilities(number, s, text),
+        _ => closing::close(s, number, text),
     }
 }
 
-fn both(task: usize, p: Pair, text: &[u8], list: &[u8], one: &mut [u8], two: &mut [u8]) -> Pair {
-    heading(task);
-    let first = p.one;
-    let second = p.two;
-    let a = perform(task, 1, first, text, list, one);
-    let b = perform(task, 2, second, text, list, two);
-    Pair { one: a, two: b }
-}
-
-fn start(text: &[u8]) -> Pair {
+fn opening() {
     show::text(OUT, b"05:00  the tent starts two displays\n");
-    let one = setup::start(1, text, 32, 26302);
-    let two = setup::start(2, text, 7, 20979);
-    Pair { one: one, two: two }
-}
-
-fn day(text: &[u8], list: &[u8], one: &mut [u8], two: &mut [u8]) -> Pair {
-    let mut p = start(text);
-    let mut task: usize = 0;
-    while task < TASKS {
-        let next = both(task, p, text, list, one, two);
-        p = next;
-        task += 1;
-    }
-    p
 }
 
 fn verdict(one: bool, two: bool) {
@@ -96,15 +74,26 @@ fn verdict(one: bool, two: bool) {
     show::text(OUT, b"NOT EVERYTHING HELD\n");
 }
 
+fn day(text: &[u8], list: &[u8]) {
+    opening();
+    let mut one = starting::start(1, text, 32, 26302);
+    let mut two = starting::start(2, text, 7, 20979);
+    let mut task: usize = 0;
+    while task < TASKS {
+        heading(task);
+        let first = perform(task, 1, one, text, list);
+        let second = perform(task, 2, two, text, list);
+        one = first;
+        two = second;
+        task += 1;
+    }
+    verdict(one.good, two.good);
+}
+
 fn main() {
     let list = list::call_list();
-    let mut one = [0u8; TABLE_ROOM];
-    let mut two = [0u8; TABLE_ROOM];
-    let end = day(
+    day(
         b"(prot(monitor)vcp(01 10 12 60(0F 11)F4)mccs_ver(2.2))",
         &list,
-        &mut one,
-        &mut two,
     );
-    verdict(end.one.good, end.two.good);
 }

@@ -1,13 +1,22 @@
-// A display at the end of its line.
+// A display at the end of its line, and what a host sends it.
 use crate::line::Line;
 use display_rules::Display;
-use message_builder::Built;
+use display_rules::limits::TABLE_ROOM;
 use message_rules::limits::OUTPUT_ROOM;
+use show::part::front;
 
-// The display, the line to it, its last answer, how many messages it was sent, and whether everything held so far.
+// A message as it goes over a line: its bytes stand in front.
+pub(crate) struct Frame {
+    pub(crate) bytes: [u8; OUTPUT_ROOM],
+    pub(crate) length: usize,
+}
+
+// The display and the memory of its table, the line to it, its last reply and answer, how many messages it was sent, and whether everything held so far.
 pub(crate) struct Site {
     pub(crate) display: Display,
+    pub(crate) table: [u8; TABLE_ROOM],
     pub(crate) line: Line,
+    pub(crate) reply: Frame,
     pub(crate) answer: u8,
     pub(crate) sent: u64,
     pub(crate) good: bool,
@@ -35,34 +44,34 @@ pub(crate) fn also(mut s: Site, good: bool) -> Site {
     s
 }
 
-// The length of a message that was built.
-pub(crate) fn length_of(built: Built) -> usize {
-    match built {
-        Built::Done(n) => n,
-        Built::Refused(_) => 0,
-    }
-}
-
-// One message to the display, whose answer should be the one wanted. Its reply goes to the output.
-pub(crate) fn ask(
-    mut s: Site,
-    text: &[u8],
-    table: &mut [u8],
-    message: &[u8],
-    out: &mut [u8],
-    wanted: u8,
-) -> Site {
+// One message to the display.
+pub(crate) fn deliver(mut s: Site, text: &[u8], message: Frame) -> Site {
     let before = s.display;
-    let stepped = display::step(before, text, table, message, out);
+    let bytes = message.bytes;
+    let mut table = s.table;
+    let mut out = [0u8; OUTPUT_ROOM];
+    let stepped = display::step(
+        before,
+        text,
+        &mut table,
+        front(&bytes, message.length),
+        &mut out,
+    );
     let after = stepped.display;
+    let reply = Frame {
+        bytes: out,
+        length: stepped.length,
+    };
     s.display = after;
+    s.table = table;
+    s.reply = reply;
     s.answer = stepped.answer;
     s.sent = one_more(s.sent);
-    also(s, stepped.answer == wanted)
+    s
 }
 
-// The same for a message that has no reply.
-pub(crate) fn send(s: Site, text: &[u8], table: &mut [u8], message: &[u8], wanted: u8) -> Site {
-    let mut out = [0u8; OUTPUT_ROOM];
-    ask(s, text, table, message, &mut out, wanted)
+// One message to the display, whose answer should be the one wanted.
+pub(crate) fn ask(s: Site, text: &[u8], message: Frame, wanted: u8) -> Site {
+    let after = deliver(s, text, message);
+    also(after, after.answer == wanted)
 }

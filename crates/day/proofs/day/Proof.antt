@@ -1,25 +1,35 @@
--- `day::day` is safe and ends: the tables keep their lengths, and the tasks that are left grow fewer.
-use Prim.Native.Nat.{_-_}
-use mathlib.Core.Path.{_≡_}
-use lib.ListN.{length}
+-- `day::day` is safe and ends: the tasks that are left grow fewer.
+use Prim.Native.Nat.{_-_, _≤_}
 use borrow.Author.Needs.{needs}
 use Rattle.day.proofs.day.Statement.{statement}
 use Rattle.day.proofs.day.Tie as tie
 
 abbrev Inv-loop : tie.InvT-loop
-Inv-loop text list one₀ two₀ p₀ task₀ one two p task = (length one ≡ length one₀) × (length two ≡ length two₀)
+Inv-loop text list one₀ two₀ task₀ one two task = task ≤ 5
 
 abbrev μ-loop : tie.MeasureT-loop
-μ-loop text list one₀ two₀ p₀ task₀ one two p task = 5 - task
+μ-loop text list one₀ two₀ task₀ one two task = 5 - task
+
+opening-requires : tie.Need-opening-requires Inv-loop μ-loop
+opening-requires c κs = search needs
 
 start-requires : tie.Need-start-requires Inv-loop μ-loop
 start-requires c κs = search needs
 
+start-requires-2 : tie.Need-start-requires-2 Inv-loop μ-loop
+start-requires-2 c κs = search needs
+
 loop-holds : tie.Need-loop-holds Inv-loop μ-loop
 loop-holds c = search needs
 
-both-requires : tie.Need-both-requires Inv-loop μ-loop
-both-requires c κs = search needs
+heading-requires : tie.Need-heading-requires Inv-loop μ-loop
+heading-requires c κs = search needs
+
+perform-requires : tie.Need-perform-requires Inv-loop μ-loop
+perform-requires c κs = search needs
+
+perform-requires-2 : tie.Need-perform-requires-2 Inv-loop μ-loop
+perform-requires-2 c κs = search needs
 
 add-task : tie.Need-add-task Inv-loop μ-loop
 add-task c = search needs
@@ -30,11 +40,8 @@ loop-less c = search needs
 loop-again : tie.Need-loop-again Inv-loop μ-loop
 loop-again c = search needs
 
-same-length : tie.Need-same-length Inv-loop μ-loop
-same-length c = search needs
-
-same-length-2 : tie.Need-same-length-2 Inv-loop μ-loop
-same-length-2 c = search needs
+verdict-requires : tie.Need-verdict-requires Inv-loop μ-loop
+verdict-requires c κs = search needs
 
 returns : tie.Need-returns Inv-loop μ-loop
 returns c = search needs
@@ -45,12 +52,15 @@ day-spec =
     (tie.spec
     Inv-loop
     μ-loop
+    opening-requires
     start-requires
+    start-requires-2
     loop-holds
-    both-requires
+    heading-requires
+    perform-requires
+    perform-requires-2
     add-task
     loop-less
     loop-again
-    same-length
-    same-length-2
+    verdict-requires
     returns)

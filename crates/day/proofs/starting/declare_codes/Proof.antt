@@ -1,8 +1,8 @@
--- `day::setup::declare_codes` is safe and ends: the codes that are left grow fewer.
+-- `day::starting::declare_codes` is safe and ends: the codes that are left grow fewer.
 use Prim.Native.Nat.{_-_, _≤_}
 use borrow.Author.Needs.{needs}
-use Rattle.day.proofs.setup.declare_codes.Statement.{statement}
-use Rattle.day.proofs.setup.declare_codes.Tie as tie
+use Rattle.day.proofs.starting.declare_codes.Statement.{statement}
+use Rattle.day.proofs.starting.declare_codes.Tie as tie
 
 abbrev Inv-loop : tie.InvT-loop
 Inv-loop s₀ k₀ s k = k ≤ 4

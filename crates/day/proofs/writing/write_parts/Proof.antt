@@ -1,16 +1,14 @@
--- `day::setup::write_parts` is safe and ends: the table keeps its length, and the writes that are left grow fewer.
-use Prim.Native.Nat.{_-_}
-use mathlib.Core.Path.{_≡_}
-use lib.ListN.{length}
+-- `day::writing::write_parts` is safe and ends: the writes that are left grow fewer.
+use Prim.Native.Nat.{_-_, _≤_}
 use borrow.Author.Needs.{needs}
-use Rattle.day.proofs.setup.write_parts.Statement.{statement}
-use Rattle.day.proofs.setup.write_parts.Tie as tie
+use Rattle.day.proofs.writing.write_parts.Statement.{statement}
+use Rattle.day.proofs.writing.write_parts.Tie as tie
 
 abbrev Inv-loop : tie.InvT-loop
-Inv-loop text list table₀ s₀ k₀ table s k = length table ≡ length table₀
+Inv-loop text list s₀ k₀ s k = k ≤ 33
 
 abbrev μ-loop : tie.MeasureT-loop
-μ-loop text list table₀ s₀ k₀ table s k = 33 - k
+μ-loop text list s₀ k₀ s k = 33 - k
 
 loop-holds : tie.Need-loop-holds Inv-loop μ-loop
 loop-holds c = search needs
@@ -27,9 +25,6 @@ loop-less c = search needs
 loop-again : tie.Need-loop-again Inv-loop μ-loop
 loop-again c = search needs
 
-same-length : tie.Need-same-length Inv-loop μ-loop
-same-length c = search needs
-
 returns : tie.Need-returns Inv-loop μ-loop
 returns c = search needs
 
@@ -44,5 +39,4 @@ write-parts-spec =
     add-k
     loop-less
     loop-again
-    same-length
     returns)

@@ -6,8 +6,8 @@ use crate::site;
 use crate::site::Site;
 use crate::starting::BRIGHTNESS;
 use message_rules::answer;
+use profile_rules::Loaded;
 use profile_rules::RECORD_SIZE;
-use settings::Settings;
 use show::part::behind;
 use show::part::front;
 
@@ -24,7 +24,7 @@ fn save(mut s: Site, text: &[u8]) -> Site {
 }
 
 // The answer to a load, with its place where it is refused.
-fn loads(what: &[u8], answer: u8, place: usize) {
+fn report_load(what: &[u8], answer: u8, place: usize) {
     show::text(OUT, what);
     show::answer::meaning(OUT, answer);
     if answer != answer::DONE {
@@ -33,22 +33,21 @@ fn loads(what: &[u8], answer: u8, place: usize) {
     show::text(OUT, b"\n");
 }
 
-fn with_settings(mut s: Site, settings: Settings) -> Site {
+// The site with the settings that a load left, which should have this answer and position.
+fn settled(mut s: Site, l: Loaded, wanted: u8, place: usize) -> Site {
     let mut d = s.display;
+    let settings = l.settings;
     d.settings = settings;
     s.display = d;
-    s
+    s = site::also(s, l.answer == wanted);
+    site::also(s, l.position.0 == place)
 }
 
-// Loads a profile; the answer and the position should be the ones wanted.
-fn load(mut s: Site, what: &[u8], profile: [u8; PROFILE_ROOM], wanted: u8, place: usize) -> Site {
+fn load(s: Site, what: &[u8], profile: [u8; PROFILE_ROOM], wanted: u8, place: usize) -> Site {
     let before = s.display.settings;
     let loaded = profile::load(before, &profile);
-    let position = loaded.position;
-    let after = loaded.settings;
-    s = with_settings(s, after);
-    loads(what, loaded.answer, position.0);
-    site::also(s, loaded.answer == wanted && position.0 == place)
+    report_load(what, loaded.answer, loaded.position.0);
+    settled(s, loaded, wanted, place)
 }
 
 fn word(low: u8, high: u8) -> u64 {

@@ -48,17 +48,21 @@ fn declaration(k: usize) -> Declaration {
     }
 }
 
-// A code declared. The first refusal stays the answer.
+// The first refusal stays the answer.
+fn first_refusal(before: u8, answer: u8) -> u8 {
+    if before == answer::DONE {
+        return answer;
+    }
+    before
+}
+
 fn declare(mut s: Site, d: Declaration) -> Site {
     let before = s.display;
     let declared = display::declare(before, d);
     let after = declared.display;
     s.display = after;
-    if declared.answer == answer::DONE {
-        return s;
-    }
-    s.answer = declared.answer;
-    site::also(s, false)
+    s.answer = first_refusal(s.answer, declared.answer);
+    site::also(s, declared.answer == answer::DONE)
 }
 
 fn declare_codes(mut s: Site) -> Site {

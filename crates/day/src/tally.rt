@@ -34,16 +34,17 @@ fn more(n: u64, one: bool) -> u64 {
 }
 
 // One more exchange. It counts as spoiled where it was not accepted.
-pub(crate) fn tallied(t: Tally, fate: Fate, accepted: bool) -> Tally {
-    let spoiled = if accepted { line::GOOD } else { fate };
-    let lost = spoiled == line::REQUEST_LOST || spoiled == line::REPLY_LOST;
-    Tally {
-        accepted: more(t.accepted, accepted),
-        lost: more(t.lost, lost),
-        cut: more(t.cut, spoiled == line::CUT),
-        flipped: more(t.flipped, spoiled == line::FLIPPED),
-        repeated: more(t.repeated, spoiled == line::REPEATED),
+pub(crate) fn tallied(mut t: Tally, fate: Fate, accepted: bool) -> Tally {
+    if accepted {
+        t.accepted = sum(t.accepted, 1);
+        return t;
     }
+    t.lost = more(t.lost, fate == line::REQUEST_LOST);
+    t.lost = more(t.lost, fate == line::REPLY_LOST);
+    t.cut = more(t.cut, fate == line::CUT);
+    t.flipped = more(t.flipped, fate == line::FLIPPED);
+    t.repeated = more(t.repeated, fate == line::REPEATED);
+    t
 }
 
 // Every exchange was accepted or spoiled: what the line left alone was never refused.

@@ -12,7 +12,6 @@ use message_rules::TextKind;
 use message_rules::answer;
 use message_rules::limits::LONGEST_TEXT;
 use show::part::front;
-use transfer_rules::Received;
 use transfer_rules::State;
 use transfer_rules::Transfer;
 
@@ -48,25 +47,28 @@ fn turn(mut s: Site, text: &[u8], t: Transfer, fate: Fate) -> Site {
     s
 }
 
-// An exchange in full: its number, the offset asked for, and what came of it.
-fn trace(t: Transfer, fate: Fate, came: usize, joined: u64, answer: u8) {
-    show::number(OUT, t.count as u64 + 1, 7);
-    show::number(OUT, t.reached.0 as u64, 8);
+// An exchange in full, where its number is among those that are shown: the offset asked for, and what came of it.
+fn trace(shown: u16, number: u16, from: u16, fate: Fate, came: usize, to: u16, answer: u8) {
+    if shown < number {
+        return;
+    }
+    show::number(OUT, number as u64, 7);
+    show::number(OUT, from as u64, 8);
     show::text(OUT, b"   ");
     line::name(fate);
     show::number(OUT, came as u64, 2);
-    show::number(OUT, joined, 9);
+    show::number(OUT, std::num::wrapping_sub_u64(to as u64, from as u64), 9);
     show::answered(OUT, b"   ", answer);
 }
 
-// The same, where the exchange is among those that are shown.
-fn trace_some(shown: u16, t: Transfer, fate: Fate, came: usize, r: Received) {
-    if shown <= t.count {
-        return;
-    }
-    let after = r.transfer;
-    let joined = std::num::wrapping_sub_u64(after.reached.0 as u64, t.reached.0 as u64);
-    trace(t, fate, came, joined, r.answer);
+// The exchange that began at this offset is counted.
+fn told(mut r: Reading, fate: Fate, from: u16, came: usize, answer: u8) -> Reading {
+    let t = r.transfer;
+    let before = r.tally;
+    let tally = tally::tallied(before, fate, answer == answer::DONE);
+    r.tally = tally;
+    trace(r.shown, t.count, from, fate, came, t.reached.0, answer);
+    r
 }
 
 // What came is received.
@@ -75,14 +77,10 @@ fn receive(mut r: Reading, l: Line, fate: Fate) -> Reading {
     let wire = l.wire;
     let mut buffer = r.buffer;
     let received = transfer::receive(before, &mut buffer, front(&wire, l.came));
-    trace_some(r.shown, before, fate, l.came, received);
     let after = received.transfer;
-    let told = r.tally;
-    let tally = tally::tallied(told, fate, received.answer == answer::DONE);
     r.transfer = after;
     r.buffer = buffer;
-    r.tally = tally;
-    r
+    told(r, fate, before.reached.0, l.came, received.answer)
 }
 
 // Asking, the display's turn, and receiving what came.
@@ -153,22 +151,23 @@ fn judged(t: Transfer, tally: Tally, same: bool) -> bool {
     false
 }
 
-// What was read should be these bytes.
+// Whether everything held so far. What was read should be these bytes.
 fn holds(r: Reading, wanted: &[u8]) -> bool {
     let t = r.transfer;
     let tally = r.tally;
     let buffer = r.buffer;
     let same = check::same(wanted, front(&buffer, t.reached.0 as usize));
-    judged(t, tally, same)
+    if judged(t, tally, same) {
+        return r.site.good;
+    }
+    false
 }
 
 // A transfer of a text, which should come to these bytes.
 pub(crate) fn read(kind: TextKind, s: Site, shown: u16, text: &[u8], wanted: &[u8]) -> Reading {
     let mut r = exchanges(begin(kind, s, shown), text);
-    if holds(r, wanted) {
-        return r;
-    }
-    r.site.good = false;
+    let good = holds(r, wanted);
+    r.site.good = good;
     r
 }
 

@@ -1,6 +1,5 @@
 // Runs of a display that document 01 leaves to a program: a table of 1,024 and of 1,025 bytes, and a request that is sent twice. One line a group.
 use display_rules::Display;
-use display_rules::Stepped;
 use display_rules::limits::TABLE_ROOM;
 use libc::STDOUT_FILENO;
 use message_builder::Built;
@@ -19,10 +18,18 @@ const FRAGMENT_HEAD: usize = 5;
 // The size of the fragments that the displays here send.
 const SIZE: usize = 32;
 
-// The display after some steps, and whether each did what it should.
-struct After {
+// The writes that fill a table, and the reads that empty it: the last one is the empty fragment.
+const WRITES: u16 = 34;
+
+const READS: usize = 33;
+
+// A display with the memory of its table, and what its last step gave: the reply, its length and the answer.
+struct Bench {
     display: Display,
-    good: bool,
+    table: [u8; TABLE_ROOM],
+    reply: [u8; OUTPUT_ROOM],
+    length: usize,
+    answer: u8,
 }
 
 fn front(s: &[u8], n: usize) -> &[u8] {
@@ -40,59 +47,79 @@ fn length_of(built: Built) -> usize {
     }
 }
 
-fn started(text: &[u8]) -> Display {
+fn started() -> Bench {
     let timing = Timing {
         status: 0,
         horizontal: 0,
         vertical: 0,
     };
-    let s = display::start(timing, text, SIZE as u16);
-    s.display
+    let s = display::start(timing, b"", SIZE as u16);
+    let display = s.display;
+    Bench {
+        display: display,
+        table: [0u8; TABLE_ROOM],
+        reply: [0u8; OUTPUT_ROOM],
+        length: 0,
+        answer: s.answer,
+    }
+}
+
+// One step, with a message that was built in front of these bytes.
+fn step(mut b: Bench, m: [u8; OUTPUT_ROOM], built: Built) -> Bench {
+    let before = b.display;
+    let mut table = b.table;
+    let mut out = [0u8; OUTPUT_ROOM];
+    let s = display::step(
+        before,
+        b"",
+        &mut table,
+        front(&m, length_of(built)),
+        &mut out,
+    );
+    let after = s.display;
+    b.display = after;
+    b.table = table;
+    b.reply = out;
+    b.length = s.length;
+    b.answer = s.answer;
+    b
 }
 
 // A Table write.
-fn write(d: Display, table: &mut [u8], at: u16, data: &[u8]) -> Stepped {
+fn write(b: Bench, at: u16, data: &[u8]) -> Bench {
     let mut m = [0u8; OUTPUT_ROOM];
-    let mut out = [0u8; OUTPUT_ROOM];
-    let n = length_of(request::build_table_write(
-        TO_DISPLAY,
-        TABLE_CODE,
-        TextOffset(at),
-        data,
-        &mut m,
-    ));
-    display::step(d, b"", table, front(&m, n), &mut out)
+    let built = request::build_table_write(TO_DISPLAY, TABLE_CODE, TextOffset(at), data, &mut m);
+    step(b, m, built)
 }
 
 // A Table read.
-fn read(d: Display, table: &mut [u8], at: u16, out: &mut [u8]) -> Stepped {
+fn read(b: Bench, at: u16) -> Bench {
     let mut m = [0u8; OUTPUT_ROOM];
-    let n = length_of(request::build_table_read(TO_DISPLAY, TABLE_CODE, TextOffset(at), &mut m));
-    display::step(d, b"", table, front(&m, n), out)
+    let built = request::build_table_read(TO_DISPLAY, TABLE_CODE, TextOffset(at), &mut m);
+    step(b, m, built)
 }
 
-// The table of 1,024 bytes in writes of 31: the bytes of write k are k. The last write has one byte.
-fn fill(first: Display, table: &mut [u8]) -> After {
-    let mut d = first;
+// Write k of the table of 1,024 bytes, in writes of 31: its bytes are k. The last write has one byte.
+fn write_part(b: Bench, k: u16) -> Bench {
+    let part = k % WRITES;
+    let data = [part as u8; MOST_WRITTEN];
+    let n = if part == WRITES - 1 { 1 } else { MOST_WRITTEN };
+    write(b, part * MOST_WRITTEN as u16, front(&data, n))
+}
+
+// A display with that table. A write that is refused is the last one, and its answer stays.
+fn filled() -> Bench {
+    let mut b = started();
     let mut k: u16 = 0;
-    while k < 34 {
-        let data = [k as u8; MOST_WRITTEN];
-        let n = if k == 33 { 1 } else { MOST_WRITTEN };
-        let s = write(d, table, k * 31, front(&data, n));
-        let next = s.display;
-        d = next;
-        if s.answer != answer::DONE {
-            return After {
-                display: d,
-                good: false,
-            };
+    while k < WRITES {
+        let next = write_part(b, k);
+        b = next;
+        if b.answer != answer::DONE {
+            return b;
         }
         k += 1;
     }
-    After {
-        display: d,
-        good: true,
-    }
+    b
 }
 
 // What those writes should leave.
@@ -106,25 +133,23 @@ fn expected() -> [u8; TABLE_ROOM] {
     bytes
 }
 
-// Whether a reply's data are these bytes.
-fn carries(out: &[u8], length: usize, data: &[u8]) -> bool {
-    if length != data.len() + FRAGMENT_HEAD + 1 {
+// Whether the reply's data are these bytes.
+fn carries(b: Bench, data: &[u8]) -> bool {
+    if b.length != data.len() + FRAGMENT_HEAD + 1 {
         return false;
     }
-    check::same(front(behind(out, FRAGMENT_HEAD), data.len()), data)
+    let reply = b.reply;
+    check::same(front(behind(&reply, FRAGMENT_HEAD), data.len()), data)
 }
 
 // Reads the whole table, fragment after fragment, and the empty one behind them.
-fn reads_back(first: Display, table: &mut [u8], bytes: &[u8]) -> bool {
-    let mut out = [0u8; OUTPUT_ROOM];
-    let mut d = first;
+fn reads_back(mut b: Bench, bytes: &[u8]) -> bool {
     let mut k: usize = 0;
-    while k < 33 {
+    while k < READS {
         let at = k * SIZE;
-        let s = read(d, table, at as u16, &mut out);
-        let next = s.display;
-        d = next;
-        if !carries(&out, s.length, front(behind(bytes, at), SIZE)) {
+        let next = read(b, at as u16);
+        b = next;
+        if !carries(b, front(behind(bytes, at), SIZE)) {
             return false;
         }
         k += 1;
@@ -142,35 +167,32 @@ fn say(line: &[u8], good: bool) {
 }
 
 // A table of 1,024 bytes is taken and read back.
-fn full_table(table: &mut [u8], bytes: &[u8]) -> Display {
-    let filled = fill(started(b""), table);
-    let d = filled.display;
-    say(b"a table of 1,024 bytes is written", filled.good);
-    let good = reads_back(d, table, bytes);
-    say(b"a table of 1,024 bytes is read back", good);
-    d
+fn full_table(b: Bench, bytes: &[u8]) {
+    say(
+        b"a table of 1,024 bytes is written",
+        b.answer == answer::DONE,
+    );
+    say(b"a table of 1,024 bytes is read back", reads_back(b, bytes));
 }
 
 // A write that is refused with this answer.
-fn refused(d: Display, table: &mut [u8], at: u16, data: &[u8], answer: u8, line: &[u8]) -> Display {
-    let s = write(d, table, at, data);
-    say(line, s.answer == answer);
-    s.display
+fn refused(mut b: Bench, at: u16, data: &[u8], answer: u8, line: &[u8]) -> Bench {
+    b = write(b, at, data);
+    say(line, b.answer == answer);
+    b
 }
 
 // A table of 1,025 bytes is refused.
-fn table_too_long(full: Display, table: &mut [u8]) -> Display {
-    let past = refused(
-        full,
-        table,
+fn table_too_long(mut b: Bench) -> Bench {
+    b = refused(
+        b,
         1024,
         b"x",
         answer::TEXT_TOO_LONG,
         b"1,025 bytes are refused with 11",
     );
     refused(
-        past,
-        table,
+        b,
         1023,
         b"xy",
         answer::TEXT_TOO_LONG,
@@ -179,11 +201,9 @@ fn table_too_long(full: Display, table: &mut [u8]) -> Display {
 }
 
 // So is one with a gap.
-fn refused_writes(full: Display, table: &mut [u8]) -> Display {
-    let long = table_too_long(full, table);
+fn table_with_gap(b: Bench) -> Bench {
     refused(
-        long,
-        table,
+        b,
         1025,
         b"",
         answer::NOT_WANTED,
@@ -192,52 +212,46 @@ fn refused_writes(full: Display, table: &mut [u8]) -> Display {
 }
 
 // Nothing is changed by that.
-fn unchanged(full: Display, table: &mut [u8], bytes: &[u8]) {
-    let d = refused_writes(full, table);
-    let good = reads_back(d, table, bytes);
-    say(b"the refusals change nothing", good);
-}
-
 fn table_sizes() {
-    let mut table = [0u8; TABLE_ROOM];
+    let mut b = filled();
     let bytes = expected();
-    let full = full_table(&mut table, &bytes);
-    unchanged(full, &mut table, &bytes);
+    full_table(b, &bytes);
+    b = table_too_long(b);
+    b = table_with_gap(b);
+    say(b"the refusals change nothing", reads_back(b, &bytes));
 }
 
 // A shorter table written at offset 0 has no tail of the longer old one.
 fn short_table() {
-    let mut table = [0u8; TABLE_ROOM];
-    let mut out = [0u8; OUTPUT_ROOM];
-    let filled = fill(started(b""), &mut table);
-    let full = filled.display;
-    let short = write(full, &mut table, 0, b"ab");
-    let d = short.display;
-    let s = read(d, &mut table, 0, &mut out);
+    let mut b = filled();
+    b = write(b, 0, b"ab");
+    b = read(b, 0);
     say(
         b"a shorter table at offset 0 has no old tail",
-        carries(&out, s.length, b"ab"),
+        carries(b, b"ab"),
     );
+}
+
+// Whether the fragment of the reply stands at this offset.
+fn stands_at(b: Bench, offset: u8) -> bool {
+    let reply = b.reply;
+    reply[4] == offset
 }
 
 // With the cursor at 64 the request for 32 goes to 0, and the same request again moves on to 32.
 fn sent_twice() {
-    let mut table = [0u8; TABLE_ROOM];
-    let mut out = [0u8; OUTPUT_ROOM];
-    let filled = fill(started(b""), &mut table);
-    let d0 = filled.display;
-    let s1 = read(d0, &mut table, 0, &mut out);
-    let d1 = s1.display;
-    let s2 = read(d1, &mut table, 32, &mut out);
-    let d2 = s2.display;
-    let s3 = read(d2, &mut table, 64, &mut out);
-    let d3 = s3.display;
-    say(b"the third fragment is at 64", out[4] == 64);
-    let s4 = read(d3, &mut table, 32, &mut out);
-    let d4 = s4.display;
-    say(b"the request for 32 then goes to 0", out[4] == 0);
-    let s5 = read(d4, &mut table, 32, &mut out);
-    say(b"the same request sent twice moves on to 32", out[4] == 32);
+    let mut b = filled();
+    b = read(b, 0);
+    b = read(b, 32);
+    b = read(b, 64);
+    say(b"the third fragment is at 64", stands_at(b, 64));
+    b = read(b, 32);
+    say(b"the request for 32 then goes to 0", stands_at(b, 0));
+    b = read(b, 32);
+    say(
+        b"the same request sent twice moves on to 32",
+        stands_at(b, 32),
+    );
 }
 
 fn main() {

@@ -1,5 +1,6 @@
 // A display on standard input and output. The format of its records stands in docs/DISPLAY-PIPE.md.
 use display_rules::Display;
+use display_rules::limits::TABLE_ROOM;
 use libc::STDERR_FILENO;
 use libc::STDIN_FILENO;
 use libc::STDOUT_FILENO;
@@ -22,19 +23,57 @@ const LONGEST_PROFILE: usize = 1785;
 // The longest body of a record.
 const LONGEST_BODY: usize = 65535;
 
-// The display after a record, and whether to go on.
-struct After {
+// What stops the program: the end of the input, or a malformed record.
+const NONE: u8 = 0;
+
+const ENDED: u8 = 1;
+
+const CUT: u8 = 2;
+
+const SHORT_START: u8 = 3;
+
+const WRONG_DECLARE: u8 = 4;
+
+const WRONG_FLAG: u8 = 5;
+
+const PROFILE_BODY: u8 = 6;
+
+const WRONG_KIND: u8 = 7;
+
+// The display with the memory of its table, and whether to go on.
+struct State {
     display: Display,
+    table: [u8; TABLE_ROOM],
     go: bool,
 }
 
-// A 16-bit number of a record, the low byte first.
-fn word(low: u8, high: u8) -> u16 {
-    low as u16 + high as u16 * 256
+// A record's kind and the length of its body, or what is wrong.
+struct Head {
+    kind: u8,
+    length: usize,
+    fault: u8,
+}
+
+// The byte at an index, or 0 past the end.
+fn octet(s: &[u8], at: usize) -> u8 {
+    if at < s.len() {
+        return s[at];
+    }
+    0
 }
 
 fn wide(x: u16) -> usize {
     x as usize
+}
+
+// A 16-bit number of a record, the low byte first.
+fn pair(low: u8, high: u8) -> u16 {
+    low as u16 + high as u16 * 256
+}
+
+// The number at an index that is not the last.
+fn word(s: &[u8], at: usize) -> u16 {
+    pair(octet(s, at), octet(s, at % 65536 + 1))
 }
 
 // The first n bytes of s, or all of it where it is shorter.
@@ -56,129 +95,190 @@ fn write_answer(answer: u8, reply: &[u8]) -> bool {
     false
 }
 
-// A malformed record: one line says what is wrong, and the program stops.
-fn malformed(d: Display, line: &[u8]) -> After {
-    io::write_all(STDERR_FILENO, line);
-    After {
-        display: d,
-        go: false,
+// One line says what is wrong with a record.
+fn complain(fault: u8) {
+    match fault {
+        NONE => {}
+        ENDED => {}
+        CUT => line(b"display_pipe: the input ends in the middle of a record\n"),
+        SHORT_START => line(b"display_pipe: a start record needs 7 bytes or more\n"),
+        WRONG_DECLARE => line(b"display_pipe: a declare record has 9 bytes\n"),
+        WRONG_FLAG => line(b"display_pipe: readable, writable and continuous are 0 or 1\n"),
+        PROFILE_BODY => line(b"display_pipe: a record that asks for the profile has no body\n"),
+        _ => line(
+            b"display_pipe: the kind of a record is 1 (start), 2 (declare), 3 (message), 4 (write the profile) or 5 (load a profile)\n",
+        ),
     }
 }
 
-fn cut_short(d: Display) -> After {
-    malformed(
-        d,
-        b"display_pipe: the input ends in the middle of a record\n",
-    )
+fn line(s: &[u8]) {
+    io::write_all(STDERR_FILENO, s);
 }
 
-// A start. The capabilities string stays in the buffer `text` for the steps that follow.
-fn start_record(d: Display, n: usize, text: &mut [u8]) -> After {
-    let mut h = [0u8; START_FIELDS];
+fn stopped(mut s: State, fault: u8) -> State {
+    complain(fault);
+    s.go = false;
+    s
+}
+
+fn answered(mut s: State, answer: u8, reply: &[u8]) -> State {
+    let go = write_answer(answer, reply);
+    s.go = go;
+    s
+}
+
+// ---- reading
+
+// Reads so many bytes into the front of the buffer. What is wrong with them.
+fn read(n: usize, buffer: &mut [u8]) -> u8 {
+    if io::read_full(STDIN_FILENO, front_mut(buffer, n)) < n {
+        return CUT;
+    }
+    NONE
+}
+
+// The length of the capabilities string in a start record of n bytes.
+fn text_length(n: usize) -> usize {
     if n < START_FIELDS {
-        return malformed(d, b"display_pipe: a start record needs 7 bytes or more\n");
+        return 0;
     }
-    if io::read_full(STDIN_FILENO, &mut h) < START_FIELDS {
-        return cut_short(d);
+    n - START_FIELDS
+}
+
+// The capabilities string stays in the buffer `text` for the steps that follow.
+fn read_start(n: usize, text: &mut [u8], body: &mut [u8]) -> u8 {
+    if n < START_FIELDS {
+        return SHORT_START;
     }
-    let length = n - START_FIELDS;
-    if io::read_full(STDIN_FILENO, front_mut(text, length)) < length {
-        return cut_short(d);
+    if read(START_FIELDS, body) == NONE {
+        return read(text_length(n), text);
     }
-    let timing = Timing {
-        status: h[0],
-        horizontal: word(h[1], h[2]),
-        vertical: word(h[3], h[4]),
-    };
-    let started = display::start(timing, front(text, length), word(h[5], h[6]));
-    let next = started.display;
-    After {
-        display: next,
-        go: write_answer(started.answer, b""),
-    }
+    CUT
 }
 
 // Whether three bytes are each 0 (no) or 1 (yes).
-fn flags(a: u8, b: u8, c: u8) -> bool {
+fn flags(a: u8, b: u8, c: u8) -> u8 {
     if a < 2 {
         if b < 2 {
-            return c < 2;
+            if c < 2 {
+                return NONE;
+            }
         }
     }
-    false
+    WRONG_FLAG
 }
 
-fn declare_record(d: Display, n: usize) -> After {
-    let mut h = [0u8; DECLARE_FIELDS];
+fn read_declare(n: usize, body: &mut [u8]) -> u8 {
     if n != DECLARE_FIELDS {
-        return malformed(d, b"display_pipe: a declare record has 9 bytes\n");
+        return WRONG_DECLARE;
     }
-    if io::read_full(STDIN_FILENO, &mut h) < DECLARE_FIELDS {
-        return cut_short(d);
+    if read(n, body) == NONE {
+        return flags(octet(body, 1), octet(body, 2), octet(body, 4));
     }
-    if flags(h[1], h[2], h[4]) {
-        let declaration = Declaration {
-            code: h[0],
-            readable: h[1] == 1,
-            writable: h[2] == 1,
-            kind: h[3],
-            continuous: h[4] == 1,
-            maximum: word(h[5], h[6]),
-            present: word(h[7], h[8]),
-        };
-        let declared = display::declare(d, declaration);
-        let next = declared.display;
-        return After {
-            display: next,
-            go: write_answer(declared.answer, b""),
-        };
+    CUT
+}
+
+// The body of a record, into the buffer `body`. What is wrong with the record.
+fn read_body(kind: u8, n: usize, text: &mut [u8], body: &mut [u8]) -> u8 {
+    match kind {
+        1 => read_start(n, text, body),
+        2 => read_declare(n, body),
+        3 => read(n, body),
+        4 => { if n == 0 { NONE } else { PROFILE_BODY } }
+        5 => read(n, body),
+        _ => WRONG_KIND,
     }
-    malformed(
-        d,
-        b"display_pipe: readable, writable and continuous are 0 or 1\n",
-    )
+}
+
+// The end of the input in front of a record is the end of the program.
+fn head_fault(got: usize) -> u8 {
+    match got {
+        0 => ENDED,
+        HEAD => NONE,
+        _ => CUT,
+    }
+}
+
+fn read_head() -> Head {
+    let mut space = [0u8; HEAD];
+    let h: &mut [u8] = &mut space;
+    let got = io::read_full(STDIN_FILENO, h);
+    Head {
+        kind: octet(h, 0),
+        length: wide(word(h, 1)),
+        fault: head_fault(got),
+    }
+}
+
+fn read_record(text: &mut [u8], body: &mut [u8]) -> Head {
+    let mut h = read_head();
+    if h.fault == NONE {
+        let fault = read_body(h.kind, h.length, text, body);
+        h.fault = fault;
+        return h;
+    }
+    h
+}
+
+// ---- obeying
+
+fn start(mut s: State, body: &[u8], text: &[u8]) -> State {
+    let timing = Timing {
+        status: octet(body, 0),
+        horizontal: word(body, 1),
+        vertical: word(body, 3),
+    };
+    let started = display::start(timing, text, word(body, 5));
+    let display = started.display;
+    s.display = display;
+    answered(s, started.answer, b"")
+}
+
+fn declaration(body: &[u8]) -> Declaration {
+    Declaration {
+        code: octet(body, 0),
+        readable: octet(body, 1) == 1,
+        writable: octet(body, 2) == 1,
+        kind: octet(body, 3),
+        continuous: octet(body, 4) == 1,
+        maximum: word(body, 5),
+        present: word(body, 7),
+    }
+}
+
+fn declare(mut s: State, d: Declaration) -> State {
+    let before = s.display;
+    let declared = display::declare(before, d);
+    let after = declared.display;
+    s.display = after;
+    answered(s, declared.answer, b"")
 }
 
 // A step, and its reply.
-fn answer_message(d: Display, text: &[u8], table: &mut [u8], message: &[u8]) -> After {
+fn step(mut s: State, text: &[u8], message: &[u8]) -> State {
+    let before = s.display;
+    let length = s.display.capabilities.length;
+    let mut table = s.table;
     let mut out = [0u8; OUTPUT_ROOM];
-    let length = d.capabilities.length;
-    let stepped = display::step(d, front(text, wide(length)), table, message, &mut out);
-    let next = stepped.display;
-    After {
-        display: next,
-        go: write_answer(stepped.answer, front(&out, stepped.length)),
-    }
-}
-
-fn message_record(
-    d: Display,
-    n: usize,
-    text: &[u8],
-    table: &mut [u8],
-    message: &mut [u8],
-) -> After {
-    if io::read_full(STDIN_FILENO, front_mut(message, n)) < n {
-        return cut_short(d);
-    }
-    answer_message(d, text, table, front(message, n))
+    let stepped = display::step(
+        before,
+        front(text, wide(length)),
+        &mut table,
+        message,
+        &mut out,
+    );
+    let after = stepped.display;
+    s.display = after;
+    s.table = table;
+    answered(s, stepped.answer, front(&out, stepped.length))
 }
 
 // The settings profile goes back as the reply.
-fn write_record(d: Display, n: usize) -> After {
-    if n != 0 {
-        return malformed(
-            d,
-            b"display_pipe: a record that asks for the profile has no body\n",
-        );
-    }
+fn write_profile(s: State) -> State {
     let mut out = [0u8; LONGEST_PROFILE];
-    let settings = d.settings;
+    let settings = s.display.settings;
     let written = profile::write(settings, &mut out);
-    After {
-        display: d,
-        go: write_answer(written.answer, front(&out, written.length)),
-    }
+    answered(s, written.answer, front(&out, written.length))
 }
 
 // A refused profile gets its place back, in two bytes.
@@ -190,69 +290,57 @@ fn write_loaded(answer: u8, position: usize) -> bool {
     write_answer(answer, &place)
 }
 
-fn load_profile(mut d: Display, bytes: &[u8]) -> After {
+fn load_profile(mut s: State, bytes: &[u8]) -> State {
+    let mut d = s.display;
     let before = d.settings;
     let loaded = profile::load(before, bytes);
     let settings = loaded.settings;
     d.settings = settings;
-    After {
-        display: d,
-        go: write_loaded(loaded.answer, loaded.position.0),
+    s.display = d;
+    let go = write_loaded(loaded.answer, loaded.position.0);
+    s.go = go;
+    s
+}
+
+fn obey(s: State, kind: u8, n: usize, text: &[u8], body: &[u8]) -> State {
+    match kind {
+        1 => start(s, body, front(text, text_length(n))),
+        2 => declare(s, declaration(body)),
+        3 => step(s, text, front(body, n)),
+        4 => write_profile(s),
+        _ => load_profile(s, front(body, n)),
     }
 }
 
-fn load_record(d: Display, n: usize, bytes: &mut [u8]) -> After {
-    if io::read_full(STDIN_FILENO, front_mut(bytes, n)) < n {
-        return cut_short(d);
+// One record.
+fn turn(s: State, text: &mut [u8], body: &mut [u8]) -> State {
+    let h = read_record(text, body);
+    if h.fault != NONE {
+        return stopped(s, h.fault);
     }
-    load_profile(d, front(bytes, n))
-}
-
-// One record. The end of the input in front of it is the end of the program.
-fn turn(d: Display, text: &mut [u8], table: &mut [u8], message: &mut [u8]) -> After {
-    let mut head = [0u8; HEAD];
-    let got = io::read_full(STDIN_FILENO, &mut head);
-    if got == 0 {
-        return After {
-            display: d,
-            go: false,
-        };
-    }
-    if got < HEAD {
-        return cut_short(d);
-    }
-    let n = wide(word(head[1], head[2]));
-    match head[0] {
-        1 => start_record(d, n, text),
-        2 => declare_record(d, n),
-        3 => message_record(d, n, text, table, message),
-        4 => write_record(d, n),
-        5 => load_record(d, n, message),
-        0 | 6..=255 => malformed(
-            d,
-            b"display_pipe: the kind of a record is 1 (start), 2 (declare), 3 (message), 4 (write the profile) or 5 (load a profile)\n",
-        ),
-    }
+    obey(s, h.kind, h.length, text, body)
 }
 
 // Nothing says that the input ends, so the records are counted down from a number that no run uses up.
-fn serve(first: Display, text: &mut [u8], table: &mut [u8], message: &mut [u8]) {
-    let mut d = first;
+fn serve(mut s: State, text: &mut [u8], body: &mut [u8]) {
     let mut left = u64::MAX;
     while left > 0 {
-        let after = turn(d, text, table, message);
-        if !after.go {
+        let next = turn(s, text, body);
+        s = next;
+        if !s.go {
             return;
         }
-        let next = after.display;
-        d = next;
         left -= 1;
     }
 }
 
 fn main() {
     let mut text = [0u8; LONGEST_BODY];
-    let mut table = [0u8; display_rules::limits::TABLE_ROOM];
-    let mut message = [0u8; LONGEST_BODY];
-    serve(display::empty(), &mut text, &mut table, &mut message);
+    let mut body = [0u8; LONGEST_BODY];
+    let s = State {
+        display: display::empty(),
+        table: [0u8; TABLE_ROOM],
+        go: true,
+    };
+    serve(s, &mut text, &mut body);
 }

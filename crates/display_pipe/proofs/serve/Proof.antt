@@ -6,10 +6,10 @@ use Rattle.display_pipe.proofs.serve.Statement.{statement}
 use Rattle.display_pipe.proofs.serve.Tie as tie
 
 abbrev Inv-loop : tie.InvT-loop
-Inv-loop text₀ table₀ message₀ d₀ left₀ text table message d left = (length text ≡ length text₀) × (length table ≡ length table₀) × (length message ≡ length message₀)
+Inv-loop s₀ text₀ body₀ left₀ s text body left = (length text ≡ length text₀) × (length body ≡ length body₀)
 
 abbrev μ-loop : tie.MeasureT-loop
-μ-loop text₀ table₀ message₀ d₀ left₀ text table message d left = left
+μ-loop s₀ text₀ body₀ left₀ s text body left = left
 
 loop-holds : tie.Need-loop-holds Inv-loop μ-loop
 loop-holds c = search needs
@@ -23,9 +23,6 @@ same-length c = search needs
 same-length-2 : tie.Need-same-length-2 Inv-loop μ-loop
 same-length-2 c = search needs
 
-same-length-3 : tie.Need-same-length-3 Inv-loop μ-loop
-same-length-3 c = search needs
-
 returns : tie.Need-returns Inv-loop μ-loop
 returns c = search needs
 
@@ -38,14 +35,11 @@ loop-less c = search needs
 loop-again : tie.Need-loop-again Inv-loop μ-loop
 loop-again c = search needs
 
+same-length-3 : tie.Need-same-length-3 Inv-loop μ-loop
+same-length-3 c = search needs
+
 same-length-4 : tie.Need-same-length-4 Inv-loop μ-loop
 same-length-4 c = search needs
-
-same-length-5 : tie.Need-same-length-5 Inv-loop μ-loop
-same-length-5 c = search needs
-
-same-length-6 : tie.Need-same-length-6 Inv-loop μ-loop
-same-length-6 c = search needs
 
 returns-2 : tie.Need-returns-2 Inv-loop μ-loop
 returns-2 c = search needs
@@ -60,12 +54,10 @@ serve-spec =
     turn-requires
     same-length
     same-length-2
-    same-length-3
     returns
     sub-left
     loop-less
     loop-again
+    same-length-3
     same-length-4
-    same-length-5
-    same-length-6
     returns-2)

@@ -1,52 +1,54 @@
 // Document 01's answer numbers in words.
+use crate::part::behind;
+use crate::part::front;
 use crate::text;
 use message_rules::answer;
 
-// The refusals of a message on its way.
-fn message(to: i32, n: u8) {
-    match n {
-        answer::TOO_SHORT => text(to, b"too few bytes"),
-        answer::WRONG_FIRST_BYTE => text(to, b"first byte wrong"),
-        answer::WRONG_LENGTH => text(to, b"length wrong"),
-        answer::WRONG_CHECKSUM => text(to, b"check byte wrong"),
-        answer::UNKNOWN_COMMAND => text(to, b"command unknown"),
-        answer::WRONG_FIELD => text(to, b"field wrong"),
-        _ => text(to, b"wrong size lent"),
+// The width of a meaning's column.
+const WIDTH: usize = 24;
+
+// A text without the spaces behind it.
+fn trimmed(s: &[u8]) -> &[u8] {
+    let mut n = s.len();
+    while n > 0 {
+        if s[n - 1] != b' ' {
+            return &s[0..n];
+        }
+        n -= 1;
     }
+    &s[0..0]
 }
 
-// The refusals of an operation.
-fn operation(to: i32, n: u8) {
-    match n {
-        answer::CODE_NOT_ALLOWED => text(to, b"code not allowed"),
-        answer::VALUE_TOO_LARGE => text(to, b"value above the maximum"),
-        answer::NOT_WANTED => text(to, b"not the fragment wanted"),
-        answer::TEXT_TOO_LONG => text(to, b"no room for it"),
-        answer::NULL_MESSAGE => text(to, b"null message"),
-        _ => later(to, n),
+// The last number has its meaning for any above it too.
+fn column(n: u8) -> usize {
+    if n < answer::NOT_DECLARABLE {
+        return n as usize * WIDTH;
     }
+    answer::NOT_DECLARABLE as usize * WIDTH
 }
 
-// The refusals of a capabilities string, a closed transfer, a profile and a declaration.
-fn later(to: i32, n: u8) {
-    match n {
-        answer::WRONG_GRAMMAR => text(to, b"brackets or bytes wrong"),
-        answer::NO_NODE_ROOM => text(to, b"too many words"),
-        answer::TOO_DEEP => text(to, b"too deep"),
-        answer::TRANSFER_CLOSED => text(to, b"transfer closed"),
-        answer::BROKEN_PROFILE => text(to, b"profile broken"),
-        _ => text(to, b"not to be declared"),
-    }
-}
-
-// An answer number and its meaning, as `9, value above the maximum`.
+// An answer number and its meaning, as `9, value above the maximum`. The meanings stand in the order of their numbers.
 pub fn meaning(to: i32, n: u8) {
-    crate::counted(to, b"", n as u64, b", ");
-    if n == answer::DONE {
-        text(to, b"done");
-    } else if n < answer::CODE_NOT_ALLOWED {
-        message(to, n);
-    } else {
-        operation(to, n);
-    }
+    let meanings = b"done                    \
+        wrong size lent         \
+        too few bytes           \
+        first byte wrong        \
+        length wrong            \
+        check byte wrong        \
+        command unknown         \
+        field wrong             \
+        code not allowed        \
+        value above the maximum \
+        not the fragment wanted \
+        no room for it          \
+        null message            \
+        brackets or bytes wrong \
+        too many words          \
+        too deep                \
+        transfer closed         \
+        profile broken          \
+        not to be declared      ";
+    crate::number(to, n as u64, 0);
+    text(to, b", ");
+    text(to, trimmed(front(behind(meanings, column(n)), WIDTH)));
 }

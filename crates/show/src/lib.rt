@@ -54,10 +54,14 @@ pub fn hex(to: i32, b: u8) {
     text(to, &digits);
 }
 
+fn spaced_hex(to: i32, b: u8) {
+    let digits = [b' ', digit(b / 16), digit(b)];
+    text(to, &digits);
+}
+
 // Bytes in hexadecimal, a space in front of each.
 pub fn row(to: i32, s: &[u8]) {
     for i in 0..s.len() {
-        text(to, b" ");
-        hex(to, s[i]);
+        spaced_hex(to, s[i]);
     }
 }

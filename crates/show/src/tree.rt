@@ -1,4 +1,6 @@
 // The tree of a capabilities string, one word a line.
+use crate::part::behind;
+use crate::part::front;
 use crate::text;
 use capabilities_rules::Reading;
 use capabilities_rules::limits::DEEPEST;
@@ -31,12 +33,11 @@ fn levels(parents: &[u16], node: usize) -> usize {
     count
 }
 
-// A word behind the margin and the spaces of its level.
+// A word behind the margin and the spaces of its level, two for each but the first.
 fn word(to: i32, margin: &[u8], s: &[u8], level: usize) {
+    let spaces = front(b"                  ", level % 10 * 2);
     text(to, margin);
-    for _ in 1usize..level {
-        text(to, b"  ");
-    }
+    text(to, behind(spaces, 2));
     text(to, s);
     text(to, b"\n");
 }
@@ -51,8 +52,8 @@ fn words(
     count: usize,
 ) {
     for node in 0..count {
-        let rest = crate::part::behind(string, entry(starts, node));
-        let s = crate::part::front(rest, entry(lengths, node));
+        let rest = behind(string, entry(starts, node));
+        let s = front(rest, entry(lengths, node));
         word(to, margin, s, levels(parents, node));
     }
 }
@@ -61,20 +62,47 @@ fn words(
 fn refusal(to: i32, margin: &[u8], number: u8, place: usize) {
     text(to, margin);
     crate::counted(to, b"refused ", number as u64, b" at ");
-    crate::counted(to, b"", place as u64, b"\n");
+    crate::number(to, place as u64, 0);
+    text(to, b"\n");
 }
 
-// The tree of a capabilities string, each line behind the margin: a word a line, indented by two spaces a level.
-// A string that is refused gives one line, `refused N at P`. Whether it was accepted.
-pub fn write(to: i32, margin: &[u8], string: &[u8]) -> bool {
+// What a capabilities string is read to: the words' places, and their parents.
+struct Nodes {
+    starts: [u16; MOST_NODES],
+    lengths: [u16; MOST_NODES],
+    parents: [u16; MOST_NODES],
+    reading: Reading,
+}
+
+fn read(string: &[u8]) -> Nodes {
     let mut starts = [0u16; MOST_NODES];
     let mut lengths = [0u16; MOST_NODES];
     let mut parents = [0u16; MOST_NODES];
     let mut groups = [0u8; MOST_NODES];
     let reading = capabilities::read(string, &mut starts, &mut lengths, &mut parents, &mut groups);
+    Nodes {
+        starts: starts,
+        lengths: lengths,
+        parents: parents,
+        reading: reading,
+    }
+}
+
+fn tree(to: i32, margin: &[u8], string: &[u8], n: Nodes, count: usize) {
+    let starts = n.starts;
+    let lengths = n.lengths;
+    let parents = n.parents;
+    words(to, margin, string, &starts, &lengths, &parents, count);
+}
+
+// The tree of a capabilities string, each line behind the margin: a word a line, indented by two spaces a level.
+// A string that is refused gives one line, `refused N at P`. Whether it was accepted.
+pub fn write(to: i32, margin: &[u8], string: &[u8]) -> bool {
+    let n = read(string);
+    let reading = n.reading;
     match reading {
         Reading::Accepted(count) => {
-            words(to, margin, string, &starts, &lengths, &parents, count);
+            tree(to, margin, string, n, count);
             true
         }
         Reading::Refused(number, position) => {

@@ -1,5 +1,5 @@
--- `show::row` is safe and ends: the index stays within the slice.
-use Prim.Native.Nat.{_-_, _≤_}
+-- `show::row` is safe and ends: the index rises to the length of the slice.
+use Prim.Native.Nat.{_≤_, _-_}
 use mathlib.Core.Path.{_≡_}
 use lib.ListN.{length}
 use borrow.Author.Needs.{needs}
@@ -7,25 +7,19 @@ use Rattle.show.proofs.row.Statement.{statement}
 use Rattle.show.proofs.row.Tie as tie
 
 abbrev Inv-loop : tie.InvT-loop
-Inv-loop to s i₀ t4 i-end i = (i ≤ i-end) × (i-end ≡ length s)
+Inv-loop to s i₀ i-end i = (i ≤ i-end) × (i-end ≡ length s)
 
 abbrev μ-loop : tie.MeasureT-loop
-μ-loop to s i₀ t4 i-end i = i-end - i
+μ-loop to s i₀ i-end i = i-end - i
 
 loop-holds : tie.Need-loop-holds Inv-loop μ-loop
 loop-holds c = search needs
 
-slice-aggregate-text : tie.Need-slice-aggregate-text Inv-loop μ-loop
-slice-aggregate-text c = search needs
+shared-slice-read-spaced-hex : tie.Need-shared-slice-read-spaced-hex Inv-loop μ-loop
+shared-slice-read-spaced-hex c = search needs
 
-text-requires : tie.Need-text-requires Inv-loop μ-loop
-text-requires c κs = search needs
-
-shared-slice-read-hex : tie.Need-shared-slice-read-hex Inv-loop μ-loop
-shared-slice-read-hex c = search needs
-
-hex-requires : tie.Need-hex-requires Inv-loop μ-loop
-hex-requires c κs = search needs
+spaced-hex-requires : tie.Need-spaced-hex-requires Inv-loop μ-loop
+spaced-hex-requires c κs = search needs
 
 add-i : tie.Need-add-i Inv-loop μ-loop
 add-i c = search needs
@@ -46,10 +40,8 @@ row-spec =
     Inv-loop
     μ-loop
     loop-holds
-    slice-aggregate-text
-    text-requires
-    shared-slice-read-hex
-    hex-requires
+    shared-slice-read-spaced-hex
+    spaced-hex-requires
     add-i
     loop-less
     loop-again

@@ -54,18 +54,24 @@ fn blank_from(out: &[u8], at: usize) -> bool {
     true
 }
 
-// Whether building into this blank output gives this answer: 0 with exactly the bytes s, or a refusal; and no other byte changed.
-pub(crate) fn builds(f: Fields, data: &[u8], s: &[u8], expected: u8, out: &mut [u8]) -> bool {
-    match build(f, data, out) {
-        Built::Done(n) => {
-            if expected != number::DONE {
-                return false;
-            }
-            if check::same(fields::part(out, 0, n), s) {
-                return blank_from(out, n);
-            }
-            false
-        }
+// Whether an output that was blank holds exactly the bytes s in front, and no other byte changed.
+fn holds(out: &[u8], n: usize, s: &[u8]) -> bool {
+    if check::same(fields::part(out, 0, n), s) {
+        return blank_from(out, n);
+    }
+    false
+}
+
+// Whether what was built has this answer: 0 with exactly the bytes s, or a refusal that changed nothing.
+fn judged(built: Built, s: &[u8], expected: u8, out: &[u8]) -> bool {
+    match built {
+        Built::Done(n) => expected == number::DONE && holds(out, n, s),
         Built::Refused(refusal) => refusal == expected && blank_from(out, 0),
     }
+}
+
+// Whether building into this blank output gives this answer.
+pub(crate) fn builds(f: Fields, data: &[u8], s: &[u8], expected: u8, out: &mut [u8]) -> bool {
+    let built = build(f, data, out);
+    judged(built, s, expected, out)
 }

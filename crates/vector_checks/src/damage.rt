@@ -21,21 +21,32 @@ fn flawed(to_host: bool, s: &[u8]) -> u8 {
         return number::TOO_SHORT;
     }
     let first = if to_host { 0x6E } else { 0x51 };
-    if s[0] != first {
+    if fields::octet(s, 0) != first {
         return number::WRONG_FIRST_BYTE;
     }
-    let n = s[1] % 128;
-    if s[1] != n ^ form(to_host, n, s[2]) {
-        return number::WRONG_LENGTH;
-    }
-    let length = n as usize + 3;
-    if n > number::LONGEST_BODY || s.len() < length {
-        return number::WRONG_LENGTH;
-    }
-    if to_host || s.len() == length {
+    let right = right_length(to_host, s.len(), fields::octet(s, 1), fields::octet(s, 2));
+    if right {
         return number::WRONG_CHECKSUM;
     }
     number::WRONG_LENGTH
+}
+
+// Whether a length byte is right for a slice of so many bytes, and in front of this command.
+fn right_length(to_host: bool, size: usize, byte: u8, command: u8) -> bool {
+    let n = byte % 128;
+    if byte != n ^ form(to_host, n, command) || n > number::LONGEST_BODY {
+        return false;
+    }
+    let length = n as usize + 3;
+    if to_host {
+        return size >= length;
+    }
+    size == length
+}
+
+// Whether the reader's answer to bytes whose checksum is wrong is that one.
+fn refused(to_host: bool, s: &[u8]) -> bool {
+    reader::answer(to_host, s) == flawed(to_host, s)
 }
 
 // The byte at index i changed to every other value, and put back. No such change keeps the checksum.
@@ -49,7 +60,7 @@ fn changed_byte(to_host: bool, s: &mut [u8], i: usize) -> Tally {
     while flaw < 255u8 {
         flaw += 1;
         s[i] = old ^ flaw;
-        let next = sum.count(reader::answer(to_host, s) == flawed(to_host, s));
+        let next = sum.count(refused(to_host, s));
         sum = next;
     }
     s[i] = old;
@@ -61,15 +72,22 @@ fn changed(to_host: bool, s: &mut [u8]) -> Tally {
     let mut sum = Tally(0, 0);
     for i in 0..s.len() {
         let bytes_changed = sum.join(changed_byte(to_host, s, i));
-        let short = fields::part(s, 0, i);
-        let next = bytes_changed.count(reader::answer(to_host, short) == flawed(to_host, short));
+        let next = bytes_changed.count(refused(to_host, fields::part(s, 0, i)));
         sum = next;
     }
     sum
 }
 
-// All of them for one message that is read with this answer; none for bytes that no builder makes. A byte behind a request is 4; one behind
-// a reply is ignored. Where there is no room for one byte more, that counts as one vector that fails.
+// A byte behind a request is 4; one behind a reply is ignored.
+fn longer_holds(to_host: bool, longer: &[u8], answer: u8) -> bool {
+    if to_host {
+        return reader::answer(true, longer) == answer;
+    }
+    reader::answer(false, longer) == number::WRONG_LENGTH
+}
+
+// All of them for one message that is read with this answer; none for bytes that no builder makes. Where there is no room for one byte more,
+// that counts as one vector that fails.
 pub fn variants(to_host: bool, s: &[u8], answer: u8) -> Tally {
     let mut space = [builder::BLANK; builder::WIDE];
     let room: &mut [u8] = &mut space;
@@ -81,11 +99,6 @@ pub fn variants(to_host: bool, s: &[u8], answer: u8) -> Tally {
         return Tally(0, 1);
     }
     bytes::copy(s, room);
-    let longer = if to_host {
-        answer
-    } else {
-        number::WRONG_LENGTH
-    };
-    let held = reader::answer(to_host, &room[0..n + 1]) == longer;
+    let held = longer_holds(to_host, &room[0..n + 1], answer);
     changed(to_host, &mut room[0..n]).count(held)
 }

@@ -24,11 +24,8 @@ join-requires c κs = search needs
 part-requires : tie.Need-part-requires Inv-loop μ-loop
 part-requires c κs = search needs
 
-answer-requires : tie.Need-answer-requires Inv-loop μ-loop
-answer-requires c κs = search needs
-
-flawed-requires : tie.Need-flawed-requires Inv-loop μ-loop
-flawed-requires c κs = search needs
+refused-requires : tie.Need-refused-requires Inv-loop μ-loop
+refused-requires c κs = search needs
 
 count-requires : tie.Need-count-requires Inv-loop μ-loop
 count-requires c κs = search needs
@@ -58,8 +55,7 @@ changed-spec =
     changed-byte-requires
     join-requires
     part-requires
-    answer-requires
-    flawed-requires
+    refused-requires
     count-requires
     add-i
     loop-less

@@ -27,11 +27,8 @@ add-flaw c = search needs
 slice-write-s : tie.Need-slice-write-s Inv-loop μ-loop
 slice-write-s c = search needs
 
-answer-requires : tie.Need-answer-requires Inv-loop μ-loop
-answer-requires c κs = search needs
-
-flawed-requires : tie.Need-flawed-requires Inv-loop μ-loop
-flawed-requires c κs = search needs
+refused-requires : tie.Need-refused-requires Inv-loop μ-loop
+refused-requires c κs = search needs
 
 count-requires : tie.Need-count-requires Inv-loop μ-loop
 count-requires c κs = search needs
@@ -62,8 +59,7 @@ changed-byte-spec =
     loop-holds
     add-flaw
     slice-write-s
-    answer-requires
-    flawed-requires
+    refused-requires
     count-requires
     loop-less
     loop-again

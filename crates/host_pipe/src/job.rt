@@ -36,10 +36,10 @@ fn length_of(built: Built) -> usize {
 }
 
 // A start, then brightness (80 of 100) and input (17, not continuous).
-pub(crate) fn start(h: Host, record: &[u8]) -> Host {
-    let a = pipe::tell(h, pipe::START, record);
-    let b = pipe::tell(a, pipe::DECLARE, b"\x10\x01\x01\x00\x01\x64\x00\x50\x00");
-    pipe::tell(b, pipe::DECLARE, b"\x60\x01\x01\x00\x00\x00\x00\x11\x00")
+pub(crate) fn start(mut h: Host, record: &[u8]) -> Host {
+    h = pipe::tell(h, pipe::START, record);
+    h = pipe::tell(h, pipe::DECLARE, b"\x10\x01\x01\x00\x01\x64\x00\x50\x00");
+    pipe::tell(h, pipe::DECLARE, b"\x60\x01\x01\x00\x00\x00\x00\x11\x00")
 }
 
 // A Table write of the list's bytes from a number on.
@@ -52,9 +52,9 @@ fn write_part(h: Host, list: &[u8], at: usize) -> Host {
 }
 
 // The list in its two parts.
-pub(crate) fn write_list(h: Host, list: &[u8]) -> Host {
-    let a = write_part(h, list, 0);
-    write_part(a, list, MOST_WRITTEN)
+pub(crate) fn write_list(mut h: Host, list: &[u8]) -> Host {
+    h = write_part(h, list, 0);
+    write_part(h, list, MOST_WRITTEN)
 }
 
 fn set(h: Host, value: u16) -> Host {
@@ -64,8 +64,9 @@ fn set(h: Host, value: u16) -> Host {
 }
 
 // What a reply to a Get says. A reply that the line has spoiled says nothing.
-fn heard(h: Host, reply: &[u8]) -> Got {
-    match read_display_reply(reply) {
+fn heard(h: Host) -> Got {
+    let reply = h.reply;
+    match read_display_reply(front(&reply, h.length)) {
         ReplyRead::Value(_, _, _, _, present) => Got {
             host: h,
             came: true,
@@ -86,20 +87,14 @@ fn nothing(h: Host) -> Got {
     }
 }
 
-fn get_once(before: Host) -> Got {
+fn get_once(mut h: Host) -> Got {
     let mut m = [0u8; OUTPUT_ROOM];
-    let mut reply = [0u8; OUTPUT_ROOM];
     let built = request::build_get(TO_DISPLAY, BRIGHTNESS, &mut m);
-    let h = pipe::exchange(
-        before,
-        pipe::MESSAGE,
-        front(&m, length_of(built)),
-        &mut reply,
-    );
+    h = pipe::exchange(h, pipe::MESSAGE, front(&m, length_of(built)));
     if h.fault != pipe::NONE {
         return nothing(h);
     }
-    heard(h, front(&reply, h.length))
+    heard(h)
 }
 
 fn get(first: Host) -> Got {
@@ -109,7 +104,7 @@ fn get(first: Host) -> Got {
         let h = g.host;
         let next = get_once(h);
         g = next;
-        if next.came {
+        if g.came {
             return g;
         }
         left -= 1;

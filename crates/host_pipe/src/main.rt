@@ -6,7 +6,6 @@ mod report;
 
 use job::Got;
 use message_rules::TextKind;
-use message_rules::limits::LONGEST_TEXT;
 use show::part::behind;
 
 // The bytes of a start record in front of the capabilities string: timing and fragment size.
@@ -14,22 +13,18 @@ const START_FIELDS: usize = 7;
 
 // Reads both texts back, and reports. A pipe that fails gets one line instead of a report.
 fn finish(got: Got, string: &[u8], list: &[u8]) {
-    let mut first = [0u8; LONGEST_TEXT];
-    let mut second = [0u8; LONGEST_TEXT];
-    let h = got.host;
-    let a = read::text(h, TextKind::Capabilities, &mut first);
-    let between = a.host;
-    let b = read::text(between, TextKind::Table, &mut second);
-    let last = b.host;
-    if last.fault != pipe::NONE {
-        report::fault(last);
+    let mut h = got.host;
+    let first = read::text(h, TextKind::Capabilities);
+    h = first.host;
+    let second = read::text(h, TextKind::Table);
+    h = second.host;
+    if h.fault != pipe::NONE {
+        report::fault(h);
         return;
     }
-    let one = a.transfer;
-    let two = b.transfer;
-    let value = report::value(last.records, got.came, got.present);
-    let read = report::string(one, &first, string);
-    report::verdict(value, read, report::table(two, &second, list));
+    let value = report::value(h.records, got.came, got.present);
+    let read = report::string(first, string);
+    report::verdict(value, read, report::table(second, list));
 }
 
 fn run(start: &[u8], list: &[u8]) {

@@ -29,10 +29,11 @@ pub(crate) const REFUSED: u8 = 5;
 
 pub(crate) const NOT_WRITTEN: u8 = 6;
 
-// How many records were sent, the answer and the reply's length of the last one that came back, and what went wrong.
+// How many records were sent; of the last one that came back the answer, the reply and its length; and what went wrong.
 pub(crate) struct Host {
     pub(crate) records: u64,
     pub(crate) answer: u8,
+    pub(crate) reply: [u8; OUTPUT_ROOM],
     pub(crate) length: usize,
     pub(crate) fault: u8,
 }
@@ -41,6 +42,7 @@ pub(crate) fn fresh() -> Host {
     Host {
         records: 0,
         answer: DONE,
+        reply: [0u8; OUTPUT_ROOM],
         length: 0,
         fault: NONE,
     }
@@ -69,42 +71,59 @@ fn write_record(kind: u8, body: &[u8]) -> bool {
     false
 }
 
-fn read_record(mut h: Host, reply: &mut [u8]) -> Host {
+fn head_fault(got: usize) -> u8 {
+    match got {
+        0 => ENDED,
+        HEAD => NONE,
+        _ => CUT,
+    }
+}
+
+fn read_head(mut h: Host) -> Host {
     let mut head = [0u8; HEAD];
     let got = io::read_full(STDIN_FILENO, &mut head);
-    if got == 0 {
-        return faulty(h, ENDED);
-    }
-    if got < HEAD {
-        return faulty(h, CUT);
-    }
     h.answer = head[0];
     h.length = word(head[1], head[2]);
-    if reply.len() < h.length {
+    h.fault = head_fault(got);
+    h
+}
+
+fn read_reply(mut h: Host) -> Host {
+    let mut reply = [0u8; OUTPUT_ROOM];
+    let length = h.length;
+    if OUTPUT_ROOM < length {
         return faulty(h, TOO_LONG);
     }
-    if io::read_full(STDIN_FILENO, front_mut(reply, h.length)) < h.length {
+    if io::read_full(STDIN_FILENO, front_mut(&mut reply, length)) < length {
         return faulty(h, CUT);
+    }
+    h.reply = reply;
+    h
+}
+
+fn read_record(mut h: Host) -> Host {
+    h = read_head(h);
+    if h.fault == NONE {
+        return read_reply(h);
     }
     h
 }
 
 // Sends a record and reads the one that comes back. After a fault nothing more is sent.
-pub(crate) fn exchange(mut h: Host, kind: u8, body: &[u8], reply: &mut [u8]) -> Host {
+pub(crate) fn exchange(mut h: Host, kind: u8, body: &[u8]) -> Host {
     if h.fault != NONE {
         return h;
     }
     h.records = std::num::wrapping_add_u64(h.records, 1);
     if write_record(kind, body) {
-        return read_record(h, reply);
+        return read_record(h);
     }
     faulty(h, NOT_WRITTEN)
 }
 
 // A record that should be answered with 0 and no reply.
-pub(crate) fn tell(before: Host, kind: u8, body: &[u8]) -> Host {
-    let mut reply = [0u8; OUTPUT_ROOM];
-    let h = exchange(before, kind, body, &mut reply);
+pub(crate) fn tell(mut h: Host, kind: u8, body: &[u8]) -> Host {
+    h = exchange(h, kind, body);
     if h.fault != NONE {
         return h;
     }

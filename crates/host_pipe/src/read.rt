@@ -2,6 +2,7 @@
 use crate::pipe;
 use crate::pipe::Host;
 use message_rules::TextKind;
+use message_rules::limits::LONGEST_TEXT;
 use message_rules::limits::OUTPUT_ROOM;
 use show::part::front;
 use transfer_rules::State;
@@ -10,13 +11,14 @@ use transfer_rules::Transfer;
 // How many exchanges a transfer may take.
 const BUDGET: usize = 500;
 
-// The host after some exchanges, and the transfer.
+// The host after some exchanges, the transfer and its buffer.
 pub(crate) struct Reading {
     pub(crate) host: Host,
     pub(crate) transfer: Transfer,
+    pub(crate) buffer: [u8; LONGEST_TEXT],
 }
 
-pub(crate) fn is_running(t: Transfer) -> bool {
+fn is_running(t: Transfer) -> bool {
     let state = t.state;
     match state {
         State::Running => true,
@@ -36,53 +38,62 @@ pub(crate) fn is_done(t: Transfer) -> bool {
     }
 }
 
-fn exchange(r: Reading, buffer: &mut [u8]) -> Reading {
+// The transfer's next request is sent, and its reply read.
+fn ask(h: Host, t: Transfer) -> Host {
     let mut request = [0u8; OUTPUT_ROOM];
-    let mut reply = [0u8; OUTPUT_ROOM];
-    let before = r.host;
-    let t = r.transfer;
     let asked = transfer::request(t, &mut request);
-    let h = pipe::exchange(
-        before,
-        pipe::MESSAGE,
-        front(&request, asked.len),
-        &mut reply,
-    );
-    if h.fault != pipe::NONE {
-        return Reading {
-            host: h,
-            transfer: t,
-        };
-    }
-    let received = transfer::receive(t, buffer, front(&reply, h.length));
-    let after = received.transfer;
-    Reading {
-        host: h,
-        transfer: after,
-    }
+    pipe::exchange(h, pipe::MESSAGE, front(&request, asked.len))
 }
 
-fn exchanges(first: Reading, buffer: &mut [u8]) -> Reading {
-    let mut r = first;
+// The reply that came is given to the transfer.
+fn receive(mut r: Reading, h: Host) -> Reading {
+    let before = r.transfer;
+    let reply = h.reply;
+    let mut buffer = r.buffer;
+    let received = transfer::receive(before, &mut buffer, front(&reply, h.length));
+    let after = received.transfer;
+    r.transfer = after;
+    r.buffer = buffer;
+    r
+}
+
+fn exchange(mut r: Reading) -> Reading {
+    let mut h = r.host;
+    let t = r.transfer;
+    h = ask(h, t);
+    r.host = h;
+    if h.fault != pipe::NONE {
+        return r;
+    }
+    receive(r, h)
+}
+
+fn goes_on(r: Reading) -> bool {
+    let t = r.transfer;
+    is_running(t)
+}
+
+fn exchanges(mut r: Reading) -> Reading {
     let mut left = BUDGET;
     while left > 0 {
-        let next = exchange(r, buffer);
+        let next = exchange(r);
         r = next;
-        let t = next.transfer;
-        if !is_running(t) {
+        if goes_on(r) {
+            left -= 1;
+        } else {
             return r;
         }
-        left -= 1;
     }
     r
 }
 
-pub(crate) fn text(h: Host, kind: TextKind, buffer: &mut [u8]) -> Reading {
-    let begun = transfer::begin(kind, buffer, BUDGET);
+pub(crate) fn text(h: Host, kind: TextKind) -> Reading {
+    let buffer = [0u8; LONGEST_TEXT];
+    let begun = transfer::begin(kind, &buffer, BUDGET);
     let transfer = begun.transfer;
-    let first = Reading {
+    exchanges(Reading {
         host: h,
         transfer: transfer,
-    };
-    exchanges(first, buffer)
+        buffer: buffer,
+    })
 }

@@ -3,6 +3,7 @@ use crate::job::BRIGHT;
 use crate::pipe;
 use crate::pipe::Host;
 use crate::read;
+use crate::read::Reading;
 use libc::STDERR_FILENO;
 use show::part::front;
 use transfer_rules::Transfer;
@@ -59,25 +60,31 @@ pub(crate) fn value(records: u64, came: bool, present: u16) -> bool {
 }
 
 // How a transfer ended, and whether it brought these bytes.
-fn text(what: &[u8], t: Transfer, buffer: &[u8], wanted: &[u8]) -> bool {
-    let same = check::same(wanted, front(buffer, t.reached.0 as usize));
+fn ended(what: &[u8], t: Transfer, same: bool) -> bool {
     show::text(TO, what);
     show::counted(TO, b": ", t.reached.0 as u64, b" bytes in ");
-    show::counted(TO, b"", t.count as u64, b" exchanges; ");
-    show::compared(TO, b"beside what was sent: ", same);
+    show::number(TO, t.count as u64, 0);
+    show::compared(TO, b" exchanges; beside what was sent: ", same);
     if same { read::is_done(t) } else { false }
 }
 
-// The capabilities string, with its tree.
-pub(crate) fn string(t: Transfer, buffer: &[u8], wanted: &[u8]) -> bool {
-    if text(b"capabilities string", t, buffer, wanted) {
-        return show::tree::write(TO, b"  ", front(buffer, t.reached.0 as usize));
+fn text(what: &[u8], r: Reading, wanted: &[u8]) -> bool {
+    let t = r.transfer;
+    let buffer = r.buffer;
+    let same = check::same(wanted, front(&buffer, t.reached.0 as usize));
+    ended(what, t, same)
+}
+
+// The capabilities string, with its tree: what was read is what was sent.
+pub(crate) fn string(r: Reading, wanted: &[u8]) -> bool {
+    if text(b"capabilities string", r, wanted) {
+        return show::tree::write(TO, b"  ", wanted);
     }
     false
 }
 
-pub(crate) fn table(t: Transfer, buffer: &[u8], wanted: &[u8]) -> bool {
-    text(b"call list", t, buffer, wanted)
+pub(crate) fn table(r: Reading, wanted: &[u8]) -> bool {
+    text(b"call list", r, wanted)
 }
 
 pub(crate) fn verdict(value: bool, string: bool, table: bool) {

@@ -1,15 +1,14 @@
--- `host_pipe::read::exchanges` is safe and ends: the buffer keeps its length, and the exchanges that are left grow fewer.
-use mathlib.Core.Path.{_≡_}
-use lib.ListN.{length}
+-- `host_pipe::read::exchanges` is safe and ends: the exchanges that are left grow fewer.
+use Prim.Native.Nat.{_≤_}
 use borrow.Author.Needs.{needs}
 use Rattle.host_pipe.proofs.read.exchanges.Statement.{statement}
 use Rattle.host_pipe.proofs.read.exchanges.Tie as tie
 
 abbrev Inv-loop : tie.InvT-loop
-Inv-loop buffer₀ r₀ left₀ buffer r left = length buffer ≡ length buffer₀
+Inv-loop r₀ left₀ r left = left ≤ 500
 
 abbrev μ-loop : tie.MeasureT-loop
-μ-loop buffer₀ r₀ left₀ buffer r left = left
+μ-loop r₀ left₀ r left = left
 
 loop-holds : tie.Need-loop-holds Inv-loop μ-loop
 loop-holds c = search needs
@@ -17,14 +16,8 @@ loop-holds c = search needs
 exchange-requires : tie.Need-exchange-requires Inv-loop μ-loop
 exchange-requires c κs = search needs
 
-is-running-requires : tie.Need-is-running-requires Inv-loop μ-loop
-is-running-requires c κs = search needs
-
-same-length : tie.Need-same-length Inv-loop μ-loop
-same-length c = search needs
-
-returns : tie.Need-returns Inv-loop μ-loop
-returns c = search needs
+goes-on-requires : tie.Need-goes-on-requires Inv-loop μ-loop
+goes-on-requires c κs = search needs
 
 sub-left : tie.Need-sub-left Inv-loop μ-loop
 sub-left c = search needs
@@ -35,8 +28,8 @@ loop-less c = search needs
 loop-again : tie.Need-loop-again Inv-loop μ-loop
 loop-again c = search needs
 
-same-length-2 : tie.Need-same-length-2 Inv-loop μ-loop
-same-length-2 c = search needs
+returns : tie.Need-returns Inv-loop μ-loop
+returns c = search needs
 
 returns-2 : tie.Need-returns-2 Inv-loop μ-loop
 returns-2 c = search needs
@@ -49,11 +42,9 @@ exchanges-spec =
     μ-loop
     loop-holds
     exchange-requires
-    is-running-requires
-    same-length
-    returns
+    goes-on-requires
     sub-left
     loop-less
     loop-again
-    same-length-2
+    returns
     returns-2)

@@ -80,6 +80,21 @@ fn wants_refusal(wanted: Wanted, number: u8, place: usize) -> bool {
     }
 }
 
+fn count_of(reading: Reading) -> usize {
+    match reading {
+        Reading::Accepted(count) => count,
+        Reading::Refused(_, _) => 0,
+    }
+}
+
+// Whether a reading, with the digest of its nodes, is the one wanted.
+fn judged(reading: Reading, all: u32, wanted: Wanted) -> bool {
+    match reading {
+        Reading::Accepted(count) => wants_nodes(wanted, count, all),
+        Reading::Refused(number, position) => wants_refusal(wanted, number, position.0),
+    }
+}
+
 // Whether a string, with room for `room` nodes, is answered as wanted.
 fn answers(text: &[u8], room: usize, wanted: Wanted) -> bool {
     let mut starts = [0u16; MOST_NODES];
@@ -93,14 +108,8 @@ fn answers(text: &[u8], room: usize, wanted: Wanted) -> bool {
         &mut parents,
         front(&mut groups, room),
     );
-    match reading {
-        Reading::Accepted(count) => wants_nodes(
-            wanted,
-            count,
-            digest(starts, lengths, parents, groups, count),
-        ),
-        Reading::Refused(number, position) => wants_refusal(wanted, number, position.0),
-    }
+    let all = digest(starts, lengths, parents, groups, count_of(reading));
+    judged(reading, all, wanted)
 }
 
 fn none() -> Tally {
@@ -122,9 +131,19 @@ fn tried(t: Tally, text: &[u8], room: usize, wanted: Wanted) -> Tally {
     }
 }
 
-// The tally with one string more, that has all the room for nodes.
-fn roomy(t: Tally, text: &[u8], wanted: Wanted) -> Tally {
-    tried(t, text, MOST_NODES, wanted)
+// A string that is accepted, with so many nodes and this digest.
+fn nodes(t: Tally, text: &[u8], count: usize, digest: u32) -> Tally {
+    tried(t, text, MOST_NODES, Wanted::Nodes(count, digest))
+}
+
+// A string that is refused, with room for `room` nodes.
+fn refused(t: Tally, text: &[u8], room: usize, number: u8, place: usize) -> Tally {
+    tried(t, text, room, Wanted::Refusal(number, place))
+}
+
+// A string whose grammar is wrong at this place.
+fn wrong(t: Tally, text: &[u8], place: usize) -> Tally {
+    refused(t, text, MOST_NODES, answer::WRONG_GRAMMAR, place)
 }
 
 fn report(name: &[u8], t: Tally) {
@@ -136,32 +155,28 @@ fn report(name: &[u8], t: Tally) {
     io::write_all(STDOUT_FILENO, b" right\n");
 }
 
-fn wrong(place: usize) -> Wanted {
-    Wanted::Refusal(answer::WRONG_GRAMMAR, place)
-}
-
 // Document 01's examples, those marked [P] too.
 fn examples() {
     let mut t = none();
-    t = roomy(t, b"(vcp(10 14(05 08)))", Wanted::Nodes(5, 270490155));
-    t = roomy(t, b"()", Wanted::Nodes(0, 0));
-    t = roomy(t, b"(a(b)(c))", wrong(5));
-    t = roomy(t, b"((05))", wrong(1));
-    t = roomy(t, b"(a) ", wrong(3));
-    t = roomy(t, b"(a", wrong(2));
+    t = nodes(t, b"(vcp(10 14(05 08)))", 5, 270490155);
+    t = nodes(t, b"()", 0, 0);
+    t = wrong(t, b"(a(b)(c))", 5);
+    t = wrong(t, b"((05))", 1);
+    t = wrong(t, b"(a) ", 3);
+    t = wrong(t, b"(a", 2);
     report(b"examples", t);
 }
 
 // What document 01 leaves to its reader's care: where a group may stand, spaces, bytes at the edges of the letters.
 fn readings() {
     let mut t = none();
-    t = roomy(t, b"", wrong(0));
-    t = roomy(t, b"a", wrong(0));
-    t = roomy(t, b"(a(b)c)", Wanted::Nodes(3, 1290372201));
-    t = roomy(t, b"(a(b) (c))", wrong(6));
-    t = roomy(t, b"(a )", Wanted::Nodes(1, 196641));
-    t = roomy(t, b"(\x7f)", wrong(1));
-    t = roomy(t, b"(a\x1f)", wrong(2));
+    t = wrong(t, b"", 0);
+    t = wrong(t, b"a", 0);
+    t = nodes(t, b"(a(b)c)", 3, 1290372201);
+    t = wrong(t, b"(a(b) (c))", 6);
+    t = nodes(t, b"(a )", 1, 196641);
+    t = wrong(t, b"(\x7f)", 1);
+    t = wrong(t, b"(a\x1f)", 2);
     report(b"readings", t);
 }
 
@@ -204,8 +219,8 @@ fn depth() {
     let mut nine = [0u8; 27];
     nested(&mut nine, 18, 27);
     let mut t = none();
-    t = roomy(t, &eight, Wanted::Nodes(8, 4090424395));
-    t = roomy(t, &nine, Wanted::Refusal(answer::TOO_DEEP, 16));
+    t = nodes(t, &eight, 8, 4090424395);
+    t = refused(t, &nine, MOST_NODES, answer::TOO_DEEP, 16);
     report(b"depth 8 and 9", t);
 }
 
@@ -216,60 +231,56 @@ fn length() {
     let mut longer = [0u8; LONGEST_TEXT + 1];
     listed(&mut longer, LONGEST_TEXT, b'a', b'a');
     let mut t = none();
-    t = roomy(t, &longest, Wanted::Nodes(1, 233478));
-    t = roomy(t, &longer, Wanted::Refusal(answer::TEXT_TOO_LONG, 0));
+    t = nodes(t, &longest, 1, 233478);
+    t = refused(t, &longer, MOST_NODES, answer::TEXT_TOO_LONG, 0);
     report(b"4096 and 4097 bytes", t);
 }
 
-// 512 words are read; the next one is 14 at its first byte. Less room is less.
+// Less room is less.
+fn little_room(mut t: Tally) -> Tally {
+    t = tried(t, b"()", 0, Wanted::Nodes(0, 0));
+    t = tried(t, b"(  )", 0, Wanted::Nodes(0, 0));
+    t = refused(t, b"(a)", 0, answer::NO_NODE_ROOM, 1);
+    t = refused(t, b"(a b)", 1, answer::NO_NODE_ROOM, 3);
+    t
+}
+
+// 512 words are read; the next one is 14 at its first byte.
 fn room() {
     let mut most = [0u8; MOST_NODES * 2 + 2];
     listed(&mut most, MOST_NODES * 2 + 1, b'a', b' ');
     let mut more = [0u8; MOST_NODES * 2 + 4];
     listed(&mut more, MOST_NODES * 2 + 3, b'a', b' ');
     let mut t = none();
-    t = roomy(t, &most, Wanted::Nodes(512, 162003968));
-    t = roomy(t, &more, Wanted::Refusal(answer::NO_NODE_ROOM, 1025));
-    t = tried(t, b"()", 0, Wanted::Nodes(0, 0));
-    t = tried(t, b"(  )", 0, Wanted::Nodes(0, 0));
-    t = tried(t, b"(a)", 0, Wanted::Refusal(answer::NO_NODE_ROOM, 1));
-    t = tried(t, b"(a b)", 1, Wanted::Refusal(answer::NO_NODE_ROOM, 3));
-    report(b"512 and 513 words", t);
+    t = nodes(t, &most, 512, 162003968);
+    t = refused(t, &more, MOST_NODES, answer::NO_NODE_ROOM, 1025);
+    report(b"512 and 513 words", little_room(t));
 }
 
 // Strings as monitors give them: source 004's, two whole ones, one with windows, one that ends with a zero byte, one cut off.
 fn monitors() {
     let mut t = none();
-    t = roomy(
-        t,
-        b"(vcp(10 12 16 18 1A 50 92))",
-        Wanted::Nodes(8, 1847922888),
-    );
-    t = roomy(
+    t = nodes(t, b"(vcp(10 12 16 18 1A 50 92))", 8, 1847922888);
+    t = nodes(
         t,
         b"(prot(monitor)type(LCD)model(P2419H)cmds(01 02 03 07 0C E3 F3)vcp(02 04 05 08 10 12 14(05 08 0B 0C) 16 18 1A 52 60(01 0F 11) AA(01 02) AC AE B2 B6 C6 C8 C9 D6(01 04 05) DC(00 03 05) DF E0 E1 E2(00 02 04 0E 12 14) F0(00 08) F1(01 02) F2 FD)mswhql(1)asset_eep(40)mccs_ver(2.1))",
-        Wanted::Nodes(76, 392568916),
+        76,
+        392568916,
     );
-    t = roomy(
+    t = nodes(
         t,
         b"(prot(monitor)type(lcd)model(ACER VG270)cmds(01 02 03 07 0C E3 F3)vcp(02 04 05 08 10 12 14(05 06 08 0B) 16 18 1A 52 60(01 03 0F 11) 6C 6E 70 72(50 64 78 8C A0) 86(02 08) 87 AC AE B2 B6 C0 C6 C8 C9 CA(01 02) CC(02 03 04 05 06 08 09 0A 0D) D6(01 04 05) DF FD FF)mswhql(1)asset_eep(40)mccs_ver(2.2))",
-        Wanted::Nodes(83, 507510101),
+        83,
+        507510101,
     );
-    t = roomy(
+    t = nodes(
         t,
         b"(prot(display)type(lcd)model(xxxxx)cmds(xxxxx)vcp(02 03 10 12 C8 DC(00 01 02 03 07) DF)mccs_ver(2.2)window1(type(PIP)area(25 25 1895 1175)max(640 480)min(10 10)window(10))vcpname(10(Brightness)))",
-        Wanted::Nodes(42, 798556488),
+        42,
+        798556488,
     );
-    t = roomy(
-        t,
-        b"(prot(monitor)type(LCD)model(X)vcp(10 12))\0",
-        wrong(42),
-    );
-    t = roomy(
-        t,
-        b"(prot(monitor)type(LCD)vcp(10 12 14(05 08 0B)",
-        wrong(45),
-    );
+    t = wrong(t, b"(prot(monitor)type(LCD)model(X)vcp(10 12))\0", 42);
+    t = wrong(t, b"(prot(monitor)type(LCD)vcp(10 12 14(05 08 0B)", 45);
     report(b"monitors", t);
 }
 

@@ -1,9 +1,11 @@
 // A conforming display with fragment lengths of its own choice.
 use crate::line;
-use message_builder::Built;
-use message_builder::reply;
-use message_reader::RequestRead;
-use message_reader::request::read_request;
+use crate::line::Frame;
+use crate::line::ROOM;
+use message::Built;
+use message::RequestRead;
+use message::reply;
+use message::request::read_request;
 use message_rules::TO_DISPLAY;
 use message_rules::TO_HOST;
 use message_rules::TextKind;
@@ -48,8 +50,9 @@ pub(crate) fn moved(c: Cursor, q: usize, total: usize, fixed: usize, seed: u64) 
 }
 
 // The offset that a request asks for.
-pub(crate) fn asked(request: &[u8]) -> usize {
-    match read_request(TO_DISPLAY, request) {
+pub(crate) fn asked(request: Frame) -> usize {
+    let bytes = request.bytes;
+    match read_request(TO_DISPLAY, line::front(&bytes, request.length)) {
         RequestRead::Get(_) => 0,
         RequestRead::Set(_, _) => 0,
         RequestRead::Timing => 0,
@@ -68,25 +71,30 @@ fn length_of(built: Built) -> usize {
     }
 }
 
-// The fragment at the cursor, and its length in the output.
-pub(crate) fn fragment(
-    kind: TextKind,
-    text: &[u8],
-    offset: usize,
-    size: usize,
-    out: &mut [u8],
-) -> usize {
+fn built(kind: TextKind, at: TextOffset, data: &[u8]) -> Frame {
+    let mut out = [0u8; ROOM];
+    let built = match kind {
+        TextKind::Capabilities => reply::build_text_fragment(TO_HOST, at, data, &mut out),
+        TextKind::Table => reply::build_table_fragment(TO_HOST, at, data, &mut out),
+    };
+    Frame {
+        bytes: out,
+        length: length_of(built),
+    }
+}
+
+// The fragment at the cursor.
+pub(crate) fn fragment(kind: TextKind, text: &[u8], offset: usize, size: usize) -> Frame {
     if text.len() < offset {
-        return 0;
+        return line::silence();
     }
     if text.len() - offset < size {
-        return 0;
+        return line::silence();
     }
     let end = offset + size;
-    let data = &text[offset..end];
-    let at = TextOffset((offset % 65536) as u16);
-    match kind {
-        TextKind::Capabilities => length_of(reply::build_text_fragment(TO_HOST, at, data, out)),
-        TextKind::Table => length_of(reply::build_table_fragment(TO_HOST, at, data, out)),
-    }
+    built(
+        kind,
+        TextOffset((offset % 65536) as u16),
+        &text[offset..end],
+    )
 }

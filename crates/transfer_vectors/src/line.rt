@@ -1,5 +1,26 @@
 // A small fixed pseudo-random line.
 
+// A message on the line: its bytes stand in front.
+pub(crate) struct Frame {
+    pub(crate) bytes: [u8; ROOM],
+    pub(crate) length: usize,
+}
+
+// The bytes of output that a builder needs.
+pub(crate) const ROOM: usize = 38;
+
+// The first n bytes, or all where there are fewer.
+pub(crate) fn front(s: &[u8], n: usize) -> &[u8] {
+    if n < s.len() { &s[0..n] } else { s }
+}
+
+pub(crate) fn silence() -> Frame {
+    Frame {
+        bytes: [0u8; ROOM],
+        length: 0,
+    }
+}
+
 // The next number of the sequence.
 pub(crate) fn next(seed: u64) -> u64 {
     (seed % 2147483648 * 1103515245 + 12345) % 2147483648
@@ -10,24 +31,36 @@ pub(crate) fn digit(seed: u64) -> u64 {
     seed / 65536 % 10
 }
 
-// What comes of a reply of n bytes, in place: how many bytes arrive. With a noise of k, k replies in ten are lost, cut or have a byte flipped.
-pub(crate) fn carry(reply: &mut [u8], n: usize, noise: u64, seed: u64) -> usize {
+// A reply of n bytes without its last one.
+fn cut(mut reply: Frame) -> Frame {
+    if reply.length > 0 {
+        reply.length = reply.length - 1;
+        return reply;
+    }
+    reply
+}
+
+// A reply with a bit of its middle byte turned over.
+fn flipped(mut reply: Frame) -> Frame {
+    let at = reply.length / 2;
+    let mut bytes = reply.bytes;
+    if at < ROOM {
+        bytes[at] = bytes[at] ^ 1;
+        reply.bytes = bytes;
+        return reply;
+    }
+    reply
+}
+
+// What comes of a reply. With a noise of k, k replies in ten are lost, cut or have a byte flipped.
+pub(crate) fn carry(reply: Frame, noise: u64, seed: u64) -> Frame {
     let d = digit(seed);
     if noise <= d {
-        return n;
+        return reply;
     }
-    if d == 0 {
-        return 0;
+    match d {
+        0 => silence(),
+        1 => cut(reply),
+        _ => flipped(reply),
     }
-    if n == 0 {
-        return 0;
-    }
-    if d == 1 {
-        return n - 1;
-    }
-    let at = n / 2;
-    if at < reply.len() {
-        reply[at] = reply[at] ^ 1;
-    }
-    n
 }

@@ -5,16 +5,19 @@ mod run;
 
 use message_rules::TextKind;
 
+fn counted(what: &[u8], n: u16) {
+    io::write_all(1, what);
+    io::print_decimal(1, n as u64);
+}
+
 // One line of output: what was run, how the transfer ended, and whether the buffer is as demand 3 says.
 fn report(name: &[u8], o: run::Ended) {
     io::write_all(1, name);
     io::write_all(1, b": ");
     let state = o.state;
     run::write_state(state);
-    io::write_all(1, b", offset ");
-    io::print_decimal(1, o.reached as u64);
-    io::write_all(1, b", counted ");
-    io::print_decimal(1, o.count as u64);
+    counted(b", offset ", o.reached);
+    counted(b", counted ", o.count);
     if o.right {
         io::write_all(1, b", buffer right\n");
     } else {

@@ -2,12 +2,14 @@
 use crate::display;
 use crate::display::Cursor;
 use crate::line;
+use crate::line::Frame;
+use crate::line::ROOM;
 use message_rules::TextKind;
 use transfer_rules::State;
 use transfer_rules::Transfer;
 
 // The bytes of the buffer.
-const ROOM: usize = 240;
+const SIZE: usize = 240;
 
 // What the buffer holds before.
 const BEFORE: u8 = 0xEE;
@@ -22,11 +24,20 @@ pub(crate) struct Ended {
     pub(crate) right: bool,
 }
 
-// The transfer, the display's cursor and the line's seed after an exchange.
+// The transfer and its buffer, the display's cursor, what came back last, and the line's seed.
 struct World {
     transfer: Transfer,
+    buffer: [u8; SIZE],
     cursor: Cursor,
+    reply: Frame,
     seed: u64,
+}
+
+// What is run: a text of a kind, in fragments of a fixed length (0: mixed), over a line with this noise.
+struct Setup {
+    kind: TextKind,
+    fixed: usize,
+    noise: u64,
 }
 
 pub(crate) fn write_state(state: State) {
@@ -39,67 +50,51 @@ pub(crate) fn write_state(state: State) {
     ;
 }
 
-// The request of a transfer goes to the display, whose reply goes over the line: the world with the display's cursor moved, and how many bytes come back in the output.
-struct Taken {
-    cursor: Cursor,
-    came: usize,
-}
-
-fn turn(w: World, kind: TextKind, text: &[u8], fixed: usize, noise: u64, out: &mut [u8]) -> Taken {
-    let transfer = w.transfer;
-    let cursor = w.cursor;
-    let requested = transfer::request(transfer, out);
-    let n = requested.len;
-    if out.len() < n {
-        return Taken {
-            cursor: cursor,
-            came: 0,
-        };
-    }
-    if n == 0 {
-        return Taken {
-            cursor: cursor,
-            came: 0,
-        };
-    }
-    let q = display::asked(&out[0..n]);
-    let next = display::moved(cursor, q, text.len(), fixed, w.seed);
-    let sent = display::fragment(kind, text, next.offset, next.size, out);
-    let came = line::carry(out, sent, noise, w.seed);
-    Taken {
-        cursor: next,
-        came: came,
+fn request(t: Transfer) -> Frame {
+    let mut out = [0u8; ROOM];
+    let requested = transfer::request(t, &mut out);
+    Frame {
+        bytes: out,
+        length: requested.len,
     }
 }
 
-fn receive(t: Transfer, buffer: &mut [u8], out: &[u8], came: usize) -> Transfer {
-    if out.len() < came {
-        return t;
+// The request of a transfer goes to the display, whose reply goes over the line. A closed transfer asks for nothing.
+fn turn(mut w: World, s: Setup, text: &[u8]) -> World {
+    let t = w.transfer;
+    let before = w.cursor;
+    let kind = s.kind;
+    let asked = request(t);
+    if asked.length == 0 {
+        let none = line::silence();
+        w.reply = none;
+        return w;
     }
-    let received = transfer::receive(t, buffer, &out[0..came]);
-    received.transfer
+    let cursor = display::moved(before, display::asked(asked), text.len(), s.fixed, w.seed);
+    let sent = display::fragment(kind, text, cursor.offset, cursor.size);
+    let reply = line::carry(sent, s.noise, w.seed);
+    w.cursor = cursor;
+    w.reply = reply;
+    w
+}
+
+fn receive(mut w: World, reply: Frame) -> World {
+    let before = w.transfer;
+    let bytes = reply.bytes;
+    let mut buffer = w.buffer;
+    let received = transfer::receive(before, &mut buffer, line::front(&bytes, reply.length));
+    let after = received.transfer;
+    w.transfer = after;
+    w.buffer = buffer;
+    w
 }
 
 // Asking, the display's turn, and receiving what came back.
-fn exchange(
-    w: World,
-    kind: TextKind,
-    text: &[u8],
-    fixed: usize,
-    noise: u64,
-    buffer: &mut [u8],
-) -> World {
-    let mut space = [0u8; 38];
-    let out: &mut [u8] = &mut space;
-    let t = turn(w, kind, text, fixed, noise, out);
-    let before = w.transfer;
-    let transfer = receive(before, buffer, out, t.came);
-    let cursor = t.cursor;
-    World {
-        transfer: transfer,
-        cursor: cursor,
-        seed: line::next(w.seed),
-    }
+fn exchange(mut w: World, s: Setup, text: &[u8]) -> World {
+    w = turn(w, s, text);
+    let reply = w.reply;
+    w.seed = line::next(w.seed);
+    receive(w, reply)
 }
 
 // Whether the buffer begins with the text's first bytes, so many as were reached, and is otherwise as it was.
@@ -125,40 +120,36 @@ fn fill(text: &mut [u8]) {
     }
 }
 
-fn exchanges(
-    w: World,
-    kind: TextKind,
-    text: &[u8],
-    fixed: usize,
-    noise: u64,
-    buffer: &mut [u8],
-) -> World {
-    let mut world = w;
+fn exchanges(mut w: World, s: Setup, text: &[u8]) -> World {
     for _ in 0..EXCHANGES {
-        let next = exchange(world, kind, text, fixed, noise, buffer);
-        world = next;
+        let next = exchange(w, s, text);
+        w = next;
     }
-    world
+    w
 }
 
-fn list(kind: TextKind, text: &[u8], budget: usize, fixed: usize, noise: u64) -> Ended {
-    let mut space = [BEFORE; ROOM];
-    let buffer: &mut [u8] = &mut space;
-    let begun = transfer::begin(kind, buffer, budget);
+fn begin(kind: TextKind, budget: usize) -> World {
+    let buffer = [BEFORE; SIZE];
+    let begun = transfer::begin(kind, &buffer, budget);
     let transfer = begun.transfer;
     let cursor = Cursor {
         offset: 77,
         size: 5,
     };
-    let w = World {
+    World {
         transfer: transfer,
+        buffer: buffer,
         cursor: cursor,
+        reply: line::silence(),
         seed: 2026,
-    };
-    let end = exchanges(w, kind, text, fixed, noise, buffer);
-    let t = end.transfer;
+    }
+}
+
+fn judged(w: World, text: &[u8]) -> Ended {
+    let t = w.transfer;
     let state = t.state;
-    let right = is_right(text, buffer, t.reached.0 as usize);
+    let buffer = w.buffer;
+    let right = is_right(text, &buffer, t.reached.0 as usize);
     Ended {
         state: state,
         reached: t.reached.0,
@@ -167,18 +158,9 @@ fn list(kind: TextKind, text: &[u8], budget: usize, fixed: usize, noise: u64) ->
     }
 }
 
-fn cut(
-    kind: TextKind,
-    all: &[u8],
-    length: usize,
-    budget: usize,
-    fixed: usize,
-    noise: u64,
-) -> Ended {
-    if all.len() < length {
-        return list(kind, all, budget, fixed, noise);
-    }
-    list(kind, &all[0..length], budget, fixed, noise)
+fn list(s: Setup, text: &[u8], budget: usize) -> Ended {
+    let kind = s.kind;
+    judged(exchanges(begin(kind, budget), s, text), text)
 }
 
 // A transfer of a text of so many bytes, in fragments of a fixed length (0: mixed), over a line with this noise.
@@ -190,7 +172,11 @@ pub(crate) fn whole(
     noise: u64,
 ) -> Ended {
     let mut letters = [0u8; 256];
-    let all: &mut [u8] = &mut letters;
-    fill(all);
-    cut(kind, all, length, budget, fixed, noise)
+    fill(&mut letters);
+    let s = Setup {
+        kind: kind,
+        fixed: fixed,
+        noise: noise,
+    };
+    list(s, line::front(&letters, length), budget)
 }

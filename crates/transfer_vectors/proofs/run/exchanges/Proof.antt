@@ -1,17 +1,14 @@
--- `transfer_vectors::run::exchanges` is safe and ends: the counter rises to the number of exchanges.
--- Assumes nothing.
+-- `transfer_vectors::run::exchanges` is safe and ends: the exchanges that are left grow fewer.
+use Prim.Native.Nat.{_-_, _≤_}
 use borrow.Author.Needs.{needs}
-use Prim.Native.Nat.{_≤_, _-_}
-use lib.ListN.{length}
-use mathlib.Core.Path.{_≡_}
 use Rattle.transfer_vectors.proofs.run.exchanges.Statement.{statement}
 use Rattle.transfer_vectors.proofs.run.exchanges.Tie as tie
 
 abbrev Inv-loop : tie.InvT-loop
-Inv-loop kind text fixed noise buffer₀ world₀ counter₀ buffer world counter = (counter ≤ 300) × (length buffer ≡ length buffer₀)
+Inv-loop w₀ s text counter₀ w counter = counter ≤ 300
 
 abbrev μ-loop : tie.MeasureT-loop
-μ-loop kind text fixed noise buffer₀ world₀ counter₀ buffer world counter = 300 - counter
+μ-loop w₀ s text counter₀ w counter = 300 - counter
 
 loop-holds : tie.Need-loop-holds Inv-loop μ-loop
 loop-holds c = search needs
@@ -28,9 +25,6 @@ loop-less c = search needs
 loop-again : tie.Need-loop-again Inv-loop μ-loop
 loop-again c = search needs
 
-same-length : tie.Need-same-length Inv-loop μ-loop
-same-length c = search needs
-
 returns : tie.Need-returns Inv-loop μ-loop
 returns c = search needs
 
@@ -45,5 +39,4 @@ exchanges-spec =
     add-counter
     loop-less
     loop-again
-    same-length
     returns)

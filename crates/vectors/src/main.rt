@@ -152,10 +152,11 @@ fn run_line(p: Progress, s: &[u8]) -> Progress {
     if s.len() == 0 {
         return p;
     }
-    if s[0] == b'#' {
+    let first = fields::octet(s, 0);
+    if first == b'#' {
         return p;
     }
-    if s[0] == b'[' {
+    if first == b'[' {
         let end = bytes::scan::find(s, 1, s.len(), b']');
         if end == s.len() - 1 {
             return begin(p, &s[1..end], Tally(0, 0));
@@ -168,8 +169,12 @@ fn run_line(p: Progress, s: &[u8]) -> Progress {
     stop(p)
 }
 
-fn run_lines(first: Progress, s: &[u8]) -> Progress {
-    let mut p = first;
+fn complain(number: u32) {
+    say(STDERR_FILENO, b"vectors: malformed line ", number);
+    io::write_all(STDERR_FILENO, b"\n");
+}
+
+fn run_lines(mut p: Progress, s: &[u8]) -> Progress {
     let mut at = 0;
     let mut number = 0u32;
     while at < s.len() {
@@ -178,8 +183,7 @@ fn run_lines(first: Progress, s: &[u8]) -> Progress {
         p = next;
         number = std::num::wrapping_add_u32(number, 1);
         if p.stopped {
-            say(STDERR_FILENO, b"vectors: malformed line ", number);
-            io::write_all(STDERR_FILENO, b"\n");
+            complain(number);
             return p;
         }
         if end == s.len() {
@@ -216,11 +220,19 @@ fn run_input(s: &[u8]) -> Progress {
     last
 }
 
+// What was counted beside the vectors, as groups of their own.
+fn run_beside(mut p: Progress) -> Progress {
+    let room = p.room;
+    let damaged = p.damaged;
+    p = begin(p, b"room of an output", room);
+    begin(p, b"damaged variants", damaged)
+}
+
 // Document 01's rules that are run over every value.
-fn run_rules(p: Progress) -> Progress {
-    let a = begin(p, b"document 01, fields", values::all());
-    let b = begin(a, b"document 01, table of requests", table::all(false));
-    begin(b, b"document 01, table of replies", table::all(true))
+fn run_rules(mut p: Progress) -> Progress {
+    p = begin(p, b"document 01, fields", values::all());
+    p = begin(p, b"document 01, table of requests", table::all(false));
+    begin(p, b"document 01, table of replies", table::all(true))
 }
 
 fn main() {
@@ -231,7 +243,5 @@ fn main() {
         verdict(close(p));
         return;
     }
-    let a = begin(p, b"room of an output", p.room);
-    let b = begin(a, b"damaged variants", p.damaged);
-    verdict(close(run_rules(b)));
+    verdict(close(run_rules(run_beside(p))));
 }

@@ -27,14 +27,26 @@ fn range(code: u8, high: u8, low: u8, high_step: u8, low_step: u8, more: u8) -> 
     sum
 }
 
+// The range of a row that has its steps and its number behind code and value.
+fn ranged(code: u8, high: u8, low: u8, f: &[u8]) -> Tally {
+    range(
+        code,
+        high,
+        low,
+        fields::octet(f, 3),
+        fields::octet(f, 4),
+        fields::octet(f, 5),
+    )
+}
+
 // A row: code and value, as they are printed; for a range also the step, and how many more there are. None where it has other fields.
 pub(crate) fn row(f: &[u8], s: &[u8]) -> Tally {
     if f.len() < 3 {
         return Tally(0, 0);
     }
-    let code = f[0];
-    let high = f[1];
-    let low = f[2];
+    let code = fields::octet(f, 0);
+    let high = fields::octet(f, 1);
+    let low = fields::octet(f, 2);
     let printed = [0x51, 0x84, 0x03, code, high, low];
     if !check::same(s, &printed) {
         return Tally(0, 1);
@@ -43,7 +55,7 @@ pub(crate) fn row(f: &[u8], s: &[u8]) -> Tally {
         return range(code, high, low, 0, 0, 0);
     }
     if f.len() == 6 {
-        return range(code, high, low, f[3], f[4], f[5]);
+        return ranged(code, high, low, f);
     }
     Tally(0, 0)
 }

@@ -6,10 +6,10 @@ use Rattle.vectors.proofs.run_lines.Statement.{statement}
 use Rattle.vectors.proofs.run_lines.Tie as tie
 
 abbrev Inv-loop : tie.InvT-loop
-Inv-loop s p₀ at₀ number₀ t8 t9 p at number = at ≤ length s
+Inv-loop p₀ s at₀ number₀ p at number = at ≤ length s
 
 abbrev μ-loop : tie.MeasureT-loop
-μ-loop s p₀ at₀ number₀ t8 t9 p at number = length s - at
+μ-loop p₀ s at₀ number₀ p at number = length s - at
 
 loop-holds : tie.Need-loop-holds Inv-loop μ-loop
 loop-holds c = search needs
@@ -32,17 +32,8 @@ run-line-requires c κs = search needs
 wrapping-add-u32-requires : tie.Need-wrapping-add-u32-requires Inv-loop μ-loop
 wrapping-add-u32-requires c κs = search needs
 
-slice-aggregate-say : tie.Need-slice-aggregate-say Inv-loop μ-loop
-slice-aggregate-say c = search needs
-
-say-requires : tie.Need-say-requires Inv-loop μ-loop
-say-requires c κs = search needs
-
-slice-aggregate-write-all : tie.Need-slice-aggregate-write-all Inv-loop μ-loop
-slice-aggregate-write-all c = search needs
-
-write-all-requires : tie.Need-write-all-requires Inv-loop μ-loop
-write-all-requires c κs = search needs
+complain-requires : tie.Need-complain-requires Inv-loop μ-loop
+complain-requires c κs = search needs
 
 returns : tie.Need-returns Inv-loop μ-loop
 returns c = search needs
@@ -75,10 +66,7 @@ run-lines-spec =
     part-run-line-end
     run-line-requires
     wrapping-add-u32-requires
-    slice-aggregate-say
-    say-requires
-    slice-aggregate-write-all
-    write-all-requires
+    complain-requires
     returns
     returns-2
     add-at

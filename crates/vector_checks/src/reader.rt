@@ -12,18 +12,25 @@ use message_rules::TO_HOST;
 // A reading: the answer number, the fields, where data start and how many they are.
 struct Reading(u8, Fields, usize, usize);
 
+// A message with one byte and one word at most, and data at this place.
+fn message(command: u8, byte: u8, word: u16, at: usize, len: usize) -> Reading {
+    Reading(0, Fields(command, byte, 0, 0, word, 0), at, len)
+}
+
+fn refused(number: u8) -> Reading {
+    Reading(number, Fields(0, 0, 0, 0, 0, 0), 0, 0)
+}
+
 fn of_request(read: RequestRead) -> Reading {
     match read {
-        RequestRead::Get(c) => Reading(0, Fields(0x01, c, 0, 0, 0, 0), 0, 0),
-        RequestRead::Set(c, v) => Reading(0, Fields(0x03, c, 0, 0, v, 0), 0, 0),
-        RequestRead::Timing => Reading(0, Fields(0x07, 0, 0, 0, 0, 0), 0, 0),
-        RequestRead::Save => Reading(0, Fields(0x0C, 0, 0, 0, 0, 0), 0, 0),
-        RequestRead::Text(o) => Reading(0, Fields(0xF3, 0, 0, 0, o.0, 0), 0, 0),
-        RequestRead::TableRead(c, o) => Reading(0, Fields(0xE2, c, 0, 0, o.0, 0), 0, 0),
-        RequestRead::TableWrite(c, o, at, len) => {
-            Reading(0, Fields(0xE7, c, 0, 0, o.0, 0), at.0, len)
-        }
-        RequestRead::Refused(refusal) => Reading(refusal, Fields(0, 0, 0, 0, 0, 0), 0, 0),
+        RequestRead::Get(c) => message(0x01, c, 0, 0, 0),
+        RequestRead::Set(c, v) => message(0x03, c, v, 0, 0),
+        RequestRead::Timing => message(0x07, 0, 0, 0, 0),
+        RequestRead::Save => message(0x0C, 0, 0, 0, 0),
+        RequestRead::Text(o) => message(0xF3, 0, o.0, 0, 0),
+        RequestRead::TableRead(c, o) => message(0xE2, c, o.0, 0, 0),
+        RequestRead::TableWrite(c, o, at, len) => message(0xE7, c, o.0, at.0, len),
+        RequestRead::Refused(refusal) => refused(refusal),
     }
 }
 
@@ -31,13 +38,9 @@ fn of_reply(read: ReplyRead) -> Reading {
     match read {
         ReplyRead::Value(r, c, k, m, p) => Reading(0, Fields(0x02, r, c, k, m, p), 0, 0),
         ReplyRead::Timing(a, h, v) => Reading(0, Fields(0x4E, a, 0, 0, h, v), 0, 0),
-        ReplyRead::TextFragment(o, at, len) => {
-            Reading(0, Fields(0xE3, 0, 0, 0, o.0, 0), at.0, len)
-        }
-        ReplyRead::TableFragment(o, at, len) => {
-            Reading(0, Fields(0xE4, 0, 0, 0, o.0, 0), at.0, len)
-        }
-        ReplyRead::Refused(refusal) => Reading(refusal, Fields(0, 0, 0, 0, 0, 0), 0, 0),
+        ReplyRead::TextFragment(o, at, len) => message(0xE3, 0, o.0, at.0, len),
+        ReplyRead::TableFragment(o, at, len) => message(0xE4, 0, o.0, at.0, len),
+        ReplyRead::Refused(refusal) => refused(refusal),
     }
 }
 
@@ -49,7 +52,7 @@ fn read(to_host: bool, s: &[u8]) -> Reading {
         if any.0 == own.0 {
             return own;
         }
-        return Reading(number::DISAGREE, Fields(0, 0, 0, 0, 0, 0), 0, 0);
+        return refused(number::DISAGREE);
     }
     of_request(request::read_request(TO_DISPLAY, s))
 }

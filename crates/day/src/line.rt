@@ -74,7 +74,7 @@ fn below(n: usize, seed: u64) -> usize {
 }
 
 // One bit of some byte is turned over.
-fn flip(mut reply: Frame, seed: u64) -> [u8; OUTPUT_ROOM] {
+fn flip(reply: Frame, seed: u64) -> [u8; OUTPUT_ROOM] {
     let at = below(reply.length, seed);
     let mut bytes = reply.bytes;
     if at < OUTPUT_ROOM {

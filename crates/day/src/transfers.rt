@@ -138,11 +138,15 @@ fn begin(kind: TextKind, s: Site, shown: u16) -> Reading {
     }
 }
 
+fn report(reached: u16, same: bool) {
+    show::counted(OUT, b"    ", reached as u64, b" bytes read; ");
+    show::compared(OUT, b"beside what was written: ", same);
+}
+
 // How the transfer went: it should have closed well with every exchange accounted for, and what was read should be the same as what was written.
 fn judged(t: Transfer, tally: Tally, same: bool) -> bool {
     tally::report(tally, t.count);
-    show::counted(OUT, b"    ", t.reached.0 as u64, b" bytes read; ");
-    show::compared(OUT, b"beside what was written: ", same);
+    report(t.reached.0, same);
     if state_of(t) == DONE {
         if same {
             return tally::all_told(tally, t.count);

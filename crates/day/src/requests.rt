@@ -1,7 +1,7 @@
 // The requests that the hosts send.
 use crate::site::Frame;
-use message::Built;
-use message::request;
+use message_builder::Built;
+use message_builder::request;
 use message_rules::TABLE_CODE;
 use message_rules::TO_DISPLAY;
 use message_rules::TextOffset;

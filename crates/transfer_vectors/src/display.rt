@@ -2,10 +2,10 @@
 use crate::line;
 use crate::line::Frame;
 use crate::line::ROOM;
-use message::Built;
-use message::RequestRead;
-use message::reply;
-use message::request::read_request;
+use message_builder::Built;
+use message_builder::reply;
+use message_reader::RequestRead;
+use message_reader::request::read_request;
 use message_rules::TO_DISPLAY;
 use message_rules::TO_HOST;
 use message_rules::TextKind;

@@ -68,9 +68,9 @@ fn put(data: &[u8], at: usize, table: &mut [u8])
     bytes::copy(data, &mut table[at..]);
 }
 
-// A write of the bytes at an offset of a table of `old` bytes, into the table's buffer. A buffer that is too small, which no step passes on, is left as it was.
+// A write of the bytes at an offset of a table of `old` bytes, into the table's buffer. 1 for a buffer that is too small, which no step passes on.
 pub fn write(old: u16, table: &mut [u8], code: u8, at: TextOffset, data: &[u8]) -> Writing
-    ensures { λ r. ⌜ (tableRoom ≤ length (now (table .entry)) → Writes old code (at .0) (now («data» .entry)) (now (table .entry)) (now (table .exit)) r) ⌝ }
+    ensures { λ r. ⌜ Writes old code (at .0) (now («data» .entry)) (now (table .entry)) (now (table .exit)) r ⌝ }
 {
     if table.len() < TABLE_ROOM {
         return Writing {

@@ -1,14 +1,23 @@
 -- `display_texts::table::write` meets its contract. Bytes and length change where the answer is 0.
-use mathlib.Core.Path.{refl, sym, _∙_}
+use mathlib.Core.Path.{_≡_, refl, sym, _∙_}
+use Prim.Native.Nat.{ℕ, _≤_}
 use native.Mathlib.Omega.{arith}
-use borrow.Author.Tests.{ne-eqb}
+use lib.ListN.{length}
+use borrow.Author.Tests.{ne-eqb, lt-leb, le-leb}
+use Rattle.display_rules.specs.Limits.{tableRoom}
+use Rattle.display_rules.specs.Table.{writeAnswer}
+use Rattle.display_texts.specs.Writes.{answerIn}
 use Rattle.display_rules.proofs.Sound.{write-accepted}
 use borrow.Author.Needs.{needs}
 use Rattle.display_texts.proofs.table.write.Statement.{statement}
 use Rattle.display_texts.proofs.table.write.Tie as tie
 
+-- a buffer that is large enough leaves the answer to the rules
+roomy : (room old code at n k : ℕ) → tableRoom ≤ room → k ≡ writeAnswer code old at n → k ≡ answerIn room old code at n
+roomy room old code at n k h e = rw (le-leb tableRoom room h) e
+
 returns : tie.Need-returns
-returns c = λ room. absurd (omega (arith, room))
+returns c = record { answers = rw (lt-leb tableRoom (length (c .before .before .before .args .table .now)) (c .if1 .taken)); lengthens = refl; leaves = refl }
 
 write-answer-requires : tie.Need-write-answer-requires
 write-answer-requires c κs = search needs
@@ -29,12 +38,12 @@ same-length : tie.Need-same-length
 same-length c = search needs
 
 returns-2 : tie.Need-returns-2
-returns-2 c = λ room. record { answers = c .before .before .before .before .before .before .before .write-answer .ensures; lengthens = λ _. c .length-after .ensures; leaves = rw (c .before .before .before .before .before .before .if2 .taken) (c .before .before .before .put .ensures) }
+returns-2 c = record { answers = roomy _ _ _ _ _ _ (c .before .before .before .before .before .before .before .before .if1 .left) (c .before .before .before .before .before .before .before .write-answer .ensures); lengthens = rw (c .before .before .before .before .before .before .if2 .taken) (c .length-after .ensures); leaves = rw (c .before .before .before .before .before .before .if2 .taken) (c .before .before .before .put .ensures) }
 
 returns-3 : tie.Need-returns-3
 returns-3 c =
     let refused = c .if2 .left in
-    λ room. record { answers = c .before .write-answer .ensures; lengthens = λ e. absurd (refused e); leaves = rw (ne-eqb _ _ refused) }
+    record { answers = roomy _ _ _ _ _ _ (c .before .before .if1 .left) (c .before .write-answer .ensures); lengthens = rw (ne-eqb _ _ refused); leaves = rw (ne-eqb _ _ refused) }
 
 pub write-spec : {M : Type 1} → statement M
 write-spec =

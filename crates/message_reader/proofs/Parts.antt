@@ -21,12 +21,10 @@ use Rattle.message_rules.specs.Body.{Body, split, lengthAllowed, byRow, decodeB
 use Rattle.message_rules.specs.Frame.{plainRow, plain, lengthByte, fits, bodyLength, bodyOf, agrees, frameAnswer}
 use Rattle.message_rules.specs.Message.{Reading, asMessage, bodyRead, decode}
 use Rattle.message_rules.proofs.Frames.{fits-inside}
-use Rattle.message_rules.proofs.Rows as rows
 use Rattle.message_rules.proofs.Tests.{and-true, cond-zero}
 use Rattle.message_reader.specs.declared.table.Shape.{Shape}
-use Rattle.message_reader.specs.Table.{Finding, shapeOf, findingOf, findingBy, found, plainOf}
-use Rattle.message_reader.specs.Table as table
-use Rattle.message_reader.specs.Parts.{headAnswer, tailAnswer, lengthRight, bodyAnswer, bodyIn}
+use Rattle.message_reader.specs.Table.{shapeOf}
+use Rattle.message_reader.specs.Parts.{headAnswer, tailAnswer, lengthRight, bodyIn}
 
 -- ---- each part, as the code comes to it
 
@@ -96,6 +94,10 @@ first-stands : (j k : ℕ) → (j ≡ 0 → ⊥) → orElse j k ≡ j
 first-stands zero k h = absurd (h refl)
 first-stands (suc j) k h = refl
 
+first-zero : (j k : ℕ) → orElse j k ≡ 0 → j ≡ 0
+first-zero zero k e = refl
+first-zero (suc j) k e = absurd (omega arith)
+
 second-stands : (j k : ℕ) → j ≡ 0 → orElse j k ≡ k
 second-stands zero k h = refl
 second-stands (suc j) k h = absurd (omega arith)
@@ -112,18 +114,20 @@ frame-parts d a s =
     parts (leb 3 (length s)) (eqb (getD s 0 0) (a .first)) (leb (bodyLength s) (longest d) && fits d (bodyLength s + 3) (length s))
     (eqb (getD s 1 0) (lengthByte (plain d (bodyOf s)) (bodyLength s))) (eqb (xorAll (a .seed) (take (bodyLength s + 3) s)) 0)
 
--- a refusal of the frame comes first; where there is none, what follows counts
-pub after-refused : {M : Type 0} (k : ℕ) (r : Read M) → (k ≡ 0 → ⊥) → after k r ≡ refused k
+-- what a frame without a refusal says
+pub framed : (d : Direction) (a : Address) (s : List ℕ) → frameAnswer d a s ≡ 0 → Headed d a s
+framed d a s e = headed d a s (first-zero (headAnswer d a s) (tailAnswer a (plain d (bodyOf s)) s) (sym (frame-parts d a s) ∙ e))
+
+-- the frame's answer where its head is refused, and where it is not
+pub frame-head : (d : Direction) (a : Address) (s : List ℕ) → (headAnswer d a s ≡ 0 → ⊥) → frameAnswer d a s ≡ headAnswer d a s
+frame-head d a s h = frame-parts d a s ∙ first-stands (headAnswer d a s) _ h
+
+pub frame-tail : (d : Direction) (a : Address) (s : List ℕ) → headAnswer d a s ≡ 0 → frameAnswer d a s ≡ tailAnswer a (plain d (bodyOf s)) s
+frame-tail d a s e = frame-parts d a s ∙ second-stands (headAnswer d a s) _ e
+
+after-refused : {M : Type 0} (k : ℕ) (r : Read M) → (k ≡ 0 → ⊥) → after k r ≡ refused k
 after-refused zero r h = absurd (h refl)
 after-refused (suc k) r h = refl
-
-pub after-done : {M : Type 0} (k : ℕ) (r : Read M) → k ≡ 0 → after k r ≡ r
-after-done zero r h = refl
-after-done (suc k) r h = absurd (omega arith)
-
-after-then : {B M : Type 0} (k : ℕ) (r : Read B) (f : B → Read M) → andThen (after k r) f ≡ after k (andThen r f)
-after-then zero r f = refl
-after-then (suc k) r f = refl
 
 -- the front of a body is its command number
 front : (n : ℕ) (s : List ℕ) → 0 < n → 2 < length s → take n (drop 2 s) ≡ getD s 2 0 ∷ take (n - 1) (drop 3 s)
@@ -131,30 +135,21 @@ front n s h l =
     let one : n ≡ suc (n - 1) = omega arith in
     ap (λ (k : ℕ). take k (drop 2 s)) one ∙ ap (take (suc (n - 1))) (drop-cons s 2 0 l)
 
+-- the form of the length byte, by the body's first byte
+pub plain-empty : (d : Direction) (s : List ℕ) → bodyLength s ≡ 0 → plain d (bodyOf s) ≡ false
+unfolding plain
+plain-empty d s z = ap (λ (n : ℕ). plain d (take n (drop 2 s))) z
+
+pub plain-number : (d : Direction) (s : List ℕ) → 0 < bodyLength s → 2 < length s → plain d (bodyOf s) ≡ plainRow (rowOf d (getD s 2 0))
+unfolding plain
+plain-number d s some long = ap (plain d) (front (bodyLength s) s some long)
+
 -- ---- `decode`, as the code comes to it
 
 module _ {M : Type 0} (t : Reading M) (a : Address) (s : List ℕ) where
-  pub decode-head : (headAnswer (t .direction) a s ≡ 0 → ⊥) → decode t a s ≡ refused (headAnswer (t .direction) a s)
+  pub decode-frame : (frameAnswer (t .direction) a s ≡ 0 → ⊥) → decode t a s ≡ refused (frameAnswer (t .direction) a s)
   unfolding decode bodyRead
-  decode-head h =
-      let d : Direction = t .direction in
-      ap (λ (k : ℕ). andThen (after k (decodeBody d (bodyOf s))) (asMessage t)) (frame-parts d a s ∙ first-stands (headAnswer d a s) _ h)
-      ∙ ap (λ (r : Read Body). andThen r (asMessage t)) (after-refused (headAnswer d a s) (decodeBody d (bodyOf s)) h)
-
-  -- what a message comes to whose frame is right, by what it has for a body
-  abbrev pub comesTo : Finding → Read M
-  comesTo (table.Body c h) = cond (lengthRight h s) (bodyIn t c s) (refused 7)
-  comesTo (table.Unread k) = refused k
-
-  -- a body that can be read is not empty, and has its kind's shape
-  abbrev pub Shaped : Finding → Type 0
-  Shaped (table.Body c h) = (0 < bodyLength s) × (h ≡ shapeOf (layoutOf c))
-  Shaped (table.Unread k) = Unit {0}
-
-  record Told (p : Bool) (r : Read M) (f : Finding) : Type 0 where
-    told-plain : p ≡ plainOf f
-    told-read : r ≡ comesTo f
-    told-shape : Shaped f
+  decode-frame h = ap (λ (r : Read Body). andThen r (asMessage t)) (after-refused (frameAnswer (t .direction) a s) (decodeBody (t .direction) (bodyOf s)) h)
 
   abbrev behind : List ℕ
   behind = take (bodyLength s - 1) (drop 3 s)
@@ -163,97 +158,47 @@ module _ {M : Type 0} (t : Reading M) (a : Address) (s : List ℕ) where
   by-length true y b = refl
   by-length false y b = refl
 
-  row-told : (k : ℕ) (r : Row) → 0 < bodyLength s → length behind ≡ bodyLength s - 1 → rowOf (t .direction) k ≡ r → Told (plainRow r) (andThen (byRow r behind) (asMessage t)) (findingOf r)
-  unfolding byRow
-  row-told k Unknown some n e = record { told-plain = refl; told-read = refl; told-shape = tt }
-  row-told k (Known c l) some n e =
-      let same = rows.found (t .direction) k c l e .layout in
-      record {
-        told-plain = refl;
-        told-read =
-            subst (λ (m : Layout). andThen (byRow (Known c m) behind) (asMessage t) ≡ comesTo (table.Body c (shapeOf m))) (sym same)
-            (ap (λ (m : ℕ). andThen (require (lengthAllowed (layoutOf c) m && rule c (take (layoutOf c .bytes) behind)) 7 (ok (split c (layoutOf c) behind))) (asMessage t)) n
-            ∙ by-length (lengthAllowed (layoutOf c) (bodyLength s - 1)) (rule c (take (layoutOf c .bytes) behind)) (split c (layoutOf c) behind));
-        told-shape = (some, ap shapeOf same);
-      }
-
-  module _ (e : headAnswer (t .direction) a s ≡ 0) where
-    length-behind : length behind ≡ bodyLength s - 1
-    length-behind = let h = headed (t .direction) a s e .inside in simp (length-take, length-drop) (omega arith)
-
-    body-told : (n : ℕ) → bodyLength s ≡ n → Told (plain (t .direction) (bodyOf s)) (andThen (decodeBody (t .direction) (bodyOf s)) (asMessage t)) (found (t .direction) s)
-    unfolding plain decodeBody found
-    body-told zero z =
-        subst (λ (f : Finding). Told (plain (t .direction) (bodyOf s)) (andThen (decodeBody (t .direction) (bodyOf s)) (asMessage t)) f) (sym (rw (eq-eqb (bodyLength s) 0 z)))
-        (subst (λ (b : List ℕ). Told (plain (t .direction) b) (andThen (decodeBody (t .direction) b) (asMessage t)) (table.Unread (emptyAnswer (t .direction)))) (sym (ap (λ (n : ℕ). take n (drop 2 s)) z))
-        (record { told-plain = refl; told-read = refl; told-shape = tt }))
-    body-told (suc n) z =
-        let some : 0 < bodyLength s = omega arith in
-        subst (λ (f : Finding). Told (plain (t .direction) (bodyOf s)) (andThen (decodeBody (t .direction) (bodyOf s)) (asMessage t)) f) (sym (rw (ne-eqb (bodyLength s) 0 (λ w. omega arith))))
-        (subst (λ (b : List ℕ). Told (plain (t .direction) b) (andThen (decodeBody (t .direction) b) (asMessage t)) (findingOf (rowOf (t .direction) (getD s 2 0)))) (sym (front (bodyLength s) s some (omega (arith, headed (t .direction) a s e .long))))
-        (row-told (getD s 2 0) (rowOf (t .direction) (getD s 2 0)) some length-behind refl))
-
-    pub shaped : Shaped (found (t .direction) s)
-    shaped = body-told (bodyLength s) refl .told-shape
-
-    -- the tests that follow the head's
-    pub decode-found : decode t a s ≡ after (tailAnswer a (plainOf (found (t .direction) s)) s) (comesTo (found (t .direction) s))
+  module _ (e : frameAnswer (t .direction) a s ≡ 0) where
+    -- a frame that is right leaves it to the body
+    decode-passed : (body : List ℕ) → bodyOf s ≡ body → decode t a s ≡ andThen (decodeBody (t .direction) body) (asMessage t)
     unfolding decode bodyRead
-    decode-found =
-        let d : Direction = t .direction in
-        let told = body-told (bodyLength s) refl in
-        ap (λ (k : ℕ). andThen (after k (decodeBody d (bodyOf s))) (asMessage t)) (frame-parts d a s ∙ second-stands (headAnswer d a s) _ e)
-        ∙ after-then (tailAnswer a (plain d (bodyOf s)) s) (decodeBody d (bodyOf s)) (asMessage t)
-        ∙ ap₂ (λ (p : Bool) (r : Read M). after (tailAnswer a p s) r) (told .told-plain) (told .told-read)
+    decode-passed body b = ap₂ (λ (k : ℕ) (l : List ℕ). andThen (after k (decodeBody (t .direction) l)) (asMessage t)) e b
 
-    -- the same, from what the code learns: the form p of the length byte, and the answer k of the frame's last tests
-    module _ (p : Bool) (k : ℕ) (l : p ≡ plainOf (found (t .direction) s)) (m : k ≡ tailAnswer a p s) where
-      decode-as : decode t a s ≡ after k (comesTo (found (t .direction) s))
-      decode-as = decode-found ∙ ap (λ (j : ℕ). after j (comesTo (found (t .direction) s))) (sym (m ∙ ap (λ (b : Bool). tailAnswer a b s) l))
+    pub decode-empty : bodyLength s ≡ 0 → decode t a s ≡ refused (emptyAnswer (t .direction))
+    unfolding decodeBody
+    decode-empty z = decode-passed [] (ap (λ (n : ℕ). take n (drop 2 s)) z)
 
-      pub tail-refused : (k ≡ 0 → ⊥) → decode t a s ≡ refused k
-      tail-refused h = decode-as ∙ after-refused k (comesTo (found (t .direction) s)) h
+    module _ (some : 0 < bodyLength s) where
+      decode-row : (r : Row) → rowOf (t .direction) (getD s 2 0) ≡ r → decode t a s ≡ andThen (byRow r behind) (asMessage t)
+      unfolding decodeBody
+      decode-row r q =
+          decode-passed (getD s 2 0 ∷ behind) (front (bodyLength s) s some (omega (arith, framed (t .direction) a s e .long)))
+          ∙ ap (λ (x : Row). andThen (byRow x behind) (asMessage t)) q
 
-      pub tail-passed : (f : Finding) → f ≡ found (t .direction) s → k ≡ 0 → decode t a s ≡ comesTo f
-      tail-passed f q h = decode-as ∙ after-done k (comesTo (found (t .direction) s)) h ∙ ap comesTo (sym q)
+      pub decode-unknown : rowOf (t .direction) (getD s 2 0) ≡ Unknown → decode t a s ≡ refused 6
+      unfolding byRow
+      decode-unknown q = decode-row Unknown q
 
-    pub shaped-as : (f : Finding) → f ≡ found (t .direction) s → Shaped f
-    shaped-as f q = subst Shaped (sym q) shaped
+      module _ (c : Kind) (q : rowOf (t .direction) (getD s 2 0) ≡ Known c (layoutOf c)) where
+        length-behind : length behind ≡ bodyLength s - 1
+        length-behind = let h = framed (t .direction) a s e .inside in simp (length-take, length-drop) (omega arith)
 
-  module _ (c : Kind) (h : Shape) where
-    pub body-refused : (k : ℕ) → (bodyAnswer k h s ≡ 0 → ⊥) → comesTo (findingBy k c h) ≡ refused (bodyAnswer k h s)
-    body-refused (suc k) w = refl
-    body-refused zero w = go (lengthRight h s) w
-      where
-        go : (b : Bool) → (unless b 7 0 ≡ 0 → ⊥) → cond b (bodyIn t c s) (refused 7) ≡ refused (unless b 7 0)
-        go true x = absurd (x refl)
-        go false x = refl
+        decode-known : decode t a s ≡ cond (lengthRight (shapeOf (layoutOf c)) s) (bodyIn t c s) (refused 7)
+        unfolding byRow
+        decode-known =
+            decode-row (Known c (layoutOf c)) q
+            ∙ ap (λ (n : ℕ). andThen (require (lengthAllowed (layoutOf c) n && rule c (take (layoutOf c .bytes) behind)) 7 (ok (split c (layoutOf c) behind))) (asMessage t)) length-behind
+            ∙ by-length (lengthAllowed (layoutOf c) (bodyLength s - 1)) (rule c (take (layoutOf c .bytes) behind)) (split c (layoutOf c) behind)
 
-    -- a body that is not refused is of its row, and its length is right
-    pub body-passed : (k : ℕ) → bodyAnswer k h s ≡ 0 → (findingBy k c h ≡ table.Body c h) × (lengthRight h s ≡ true)
-    body-passed (suc k) w = absurd (omega arith)
-    body-passed zero w = (refl, cond-zero (lengthRight h s) 0 7 (omega arith) w .0)
+        pub decode-length : lengthRight (shapeOf (layoutOf c)) s ≡ false → decode t a s ≡ refused 7
+        decode-length w = decode-known ∙ ap (λ (b : Bool). cond b (bodyIn t c s) (refused 7)) w
 
-    -- a body of a row is not empty
-    pub body-some : headAnswer (t .direction) a s ≡ 0 → (k : ℕ) → findingBy k c h ≡ found (t .direction) s → k ≡ 0 → 0 < bodyLength s
-    body-some e zero q z = shaped-as e (table.Body c h) q .0
-    body-some e (suc k) q z = absurd (omega arith)
+        pub decode-body : lengthRight (shapeOf (layoutOf c)) s ≡ true → decode t a s ≡ bodyIn t c s
+        decode-body w = decode-known ∙ ap (λ (b : Bool). cond b (bodyIn t c s) (refused 7)) w
 
-    pub length-passed : lengthRight h s ≡ true → comesTo (table.Body c h) ≡ bodyIn t c s
-    length-passed w = ap (λ (b : Bool). cond b (bodyIn t c s) (refused 7)) w
-
-    -- all that reading the fields asks for
-    pub readable : headAnswer (t .direction) a s ≡ 0 → Shaped (table.Body c h) → lengthRight h s ≡ true → (1 < length s) × (bodyLength s + 3 ≤ length s) × (0 < bodyLength s) × (least (layoutOf c) ≤ bodyLength s - 1)
-    readable e (some, shape) w =
-        let l = headed (t .direction) a s e in
-        let least-right : h .0 ≤ bodyLength s - 1 = leb-true (h .0) (bodyLength s - 1) (and-true (leb (h .0) (bodyLength s - 1)) (leb (bodyLength s - 1) (h .0 + h .1)) w .0) in
-        (omega (arith, l .long), l .inside, some, subst (λ (x : Shape). x .0 ≤ bodyLength s - 1) shape least-right)
-
--- the row of an empty body, and that of a command number
-pub found-empty : (d : Direction) (s : List ℕ) → bodyLength s ≡ 0 → found d s ≡ table.Unread (emptyAnswer d)
-unfolding found
-found-empty d s z = rw (eq-eqb (bodyLength s) 0 z)
-
-pub found-number : (d : Direction) (s : List ℕ) → (bodyLength s ≡ 0 → ⊥) → found d s ≡ findingOf (rowOf d (getD s 2 0))
-unfolding found
-found-number d s h = rw (ne-eqb (bodyLength s) 0 h)
+        -- all that reading the fields asks for
+        pub readable : lengthRight (shapeOf (layoutOf c)) s ≡ true → (1 < length s) × (bodyLength s + 3 ≤ length s) × (0 < bodyLength s) × (least (layoutOf c) ≤ bodyLength s - 1)
+        readable w =
+            let l = framed (t .direction) a s e in
+            let h : Shape = shapeOf (layoutOf c) in
+            (omega (arith, l .long), l .inside, some, leb-true (h .0) (bodyLength s - 1) (and-true (leb (h .0) (bodyLength s - 1)) (leb (bodyLength s - 1) (h .0 + h .1)) w .0))

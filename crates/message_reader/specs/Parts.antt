@@ -1,5 +1,5 @@
 -- The ordered tests of a message in the parts that the code takes them: before the command number is looked at, the frame's rest, the body's length.
-use Prim.Native.Nat.{ℕ, zero, suc, _+_, _-_}
+use Prim.Native.Nat.{ℕ, _+_, _-_}
 use mathlib.Core.Bool.{Bool, false, _&&_}
 use mathlib.Core.List.{List}
 use lib.ListN.{length, getD, take, drop}
@@ -32,11 +32,6 @@ tailAnswer a plain s =
 -- whether a body's length is right for its shape
 abbrev pub lengthRight : Shape → List ℕ → Bool
 lengthRight h s = leb (h .0) (bodyLength s - 1) && leb (bodyLength s - 1) (h .0 + h .1)
-
--- the answer to a body whose frame is right: that of its row, else 7 for a wrong length
-abbrev pub bodyAnswer : ℕ → Shape → List ℕ → ℕ
-bodyAnswer zero h s = unless (lengthRight h s) wrongField done
-bodyAnswer (suc k) h s = suc k
 
 abbrev fieldsIn : {M : Type 0} → Reading M → Kind → List ℕ → Read M
 fieldsIn t c f = andThen (require (rule c (take (layoutOf c .bytes) f)) wrongField (ok (split c (layoutOf c) f))) (asMessage t)

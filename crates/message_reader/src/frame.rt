@@ -4,9 +4,10 @@ ghost use mathlib.Core.List.{_∷_};
 ghost use Prim.Native.Nat.{_+_, _≤_, _<_};
 ghost use lib.ListN.{length, getD};
 ghost use Rattle.message_rules.specs.Body.{word};
-ghost use Rattle.message_rules.specs.Frame.{bodyLength, fits, lengthByte};
+ghost use Rattle.message_rules.specs.Frame.{bodyLength, bodyOf, fits, lengthByte, plain, frameAnswer};
 ghost use Rattle.message_rules.specs.Layout.{longest};
-ghost use Rattle.message_reader.specs.Parts.{headAnswer, tailAnswer, lengthRight, bodyAnswer};
+ghost use Rattle.message_reader.specs.Parts.{headAnswer, tailAnswer, lengthRight};
+use crate::table;
 use crate::table::Shape;
 use message_rules::Address;
 use message_rules::Direction;
@@ -68,7 +69,7 @@ fn fits_slice(direction: Direction, n: usize, len: usize) -> bool
 }
 
 // The tests before the command number is looked at: 2, 3, and 4 for a slice that does not agree with its length byte. 0 if none fails.
-pub(crate) fn head_answer(direction: Direction, a: Address, s: &[u8]) -> u8
+fn head_answer(direction: Direction, a: Address, s: &[u8]) -> u8
     ensures { λ r. ⌜ r ≡ headAnswer direction a (now (s .entry)) ⌝ }
 {
     if s.len() < 3 {
@@ -91,7 +92,7 @@ pub(crate) fn head_answer(direction: Direction, a: Address, s: &[u8]) -> u8
 
 // The tests of the frame that are left: 4 for the other form of length byte, then 5. 0 if none fails. The last byte is compared with the
 // checksum of those in front of it: a sum that is only compared with 0 is not taken several bytes at a time in the compiled code.
-pub(crate) fn tail_answer(a: Address, plain: bool, s: &[u8]) -> u8
+fn tail_answer(a: Address, plain: bool, s: &[u8]) -> u8
     requires { ⌜ (1 < length (now s)) × (bodyLength (now s) + 3 ≤ length (now s)) ⌝ }
     ensures { λ r. ⌜ r ≡ tailAnswer a plain (now (s .entry)) ⌝ }
 {
@@ -106,8 +107,35 @@ pub(crate) fn tail_answer(a: Address, plain: bool, s: &[u8]) -> u8
     answer::DONE
 }
 
+// Whether the length byte is to be plain, by the body's first byte. An empty body has none.
+fn is_plain(direction: Direction, s: &[u8]) -> bool
+    requires { ⌜ (2 < length (now s)) × (bodyLength (now s) + 3 ≤ length (now s)) ⌝ }
+    ensures { λ r. ⌜ r ≡ plain direction (bodyOf (now (s .entry))) ⌝ }
+{
+    match direction {
+        Direction::Request => false,
+        Direction::Reply => {
+            if body_length(s) == 0 {
+                return false;
+            }
+            table::is_plain(s[2])
+        }
+    }
+}
+
+// The tests of a frame in the papers' order: 2, 3, 4, 5. 0 if none fails.
+pub(crate) fn frame_answer(direction: Direction, a: Address, s: &[u8]) -> u8
+    ensures { λ r. ⌜ r ≡ frameAnswer direction a (now (s .entry)) ⌝ }
+{
+    let head = head_answer(direction, a, s);
+    if head != answer::DONE {
+        return head;
+    }
+    tail_answer(a, is_plain(direction, s), s)
+}
+
 // Whether a body of this shape may have the length that its slice gives it.
-fn length_right(shape: Shape, s: &[u8]) -> bool
+pub(crate) fn length_right(shape: Shape, s: &[u8]) -> bool
     requires { ⌜ (1 < length (now s)) × (0 < bodyLength (now s)) ⌝ }
     ensures { λ r. ⌜ r ≡ lengthRight shape (now (s .entry)) ⌝ }
 {
@@ -119,18 +147,4 @@ fn length_right(shape: Shape, s: &[u8]) -> bool
         return false;
     }
     true
-}
-
-// The answer to a body where the frame is right: that of its row, or 7 for a wrong length. 0 if its fields can be read.
-pub(crate) fn body_answer(refusal: u8, shape: Shape, s: &[u8]) -> u8
-    requires { ⌜ (1 < length (now s)) × (refusal ≡ 0 → 0 < bodyLength (now s)) ⌝ }
-    ensures { λ r. ⌜ r ≡ bodyAnswer refusal shape (now (s .entry)) ⌝ }
-{
-    if refusal != answer::DONE {
-        return refusal;
-    }
-    if length_right(shape, s) {
-        return answer::DONE;
-    }
-    answer::WRONG_FIELD
 }

@@ -10,8 +10,6 @@ ghost use Rattle.message_rules.specs.Row as row;
 ghost use Rattle.message_reader.specs.Outcome.{ReplyMeans, ReplyJudges};
 ghost use Rattle.message_reader.specs.Parts.{bodyIn};
 ghost use Rattle.message_reader.specs.Start.{startsWith, nullBytes};
-ghost use Rattle.message_reader.specs.Table.{ReplyRows, found};
-ghost use Rattle.message_rules.specs.declared.Direction.the-variants.{Reply};
 use crate::ReplyRead;
 use crate::frame;
 use crate::table;
@@ -67,38 +65,26 @@ enum ReplyJudged {
     Refused(u8),
 }
 
-// What the slice has for a body. An empty one is the null message.
-fn row_of(s: &[u8]) -> ReplyRow
-    requires { ⌜ 2 < length (now s) ⌝ }
-    ensures { λ r. ⌜ ReplyRows (found Reply (now (s .entry))) r ⌝ }
-{
-    if frame::body_length(s) == 0 {
-        return table::unread_reply(answer::NULL_MESSAGE);
-    }
-    table::find_reply(s[2])
-}
-
-// The tests of a reply in the papers' order, but those of its fields. The row says which form of length byte is right, so it is found
-// before the frame's last tests.
+// The tests of a reply in the papers' order, but those of its fields: the frame, then its body.
 fn judge(a: Address, s: &[u8]) -> ReplyJudged
     ensures { λ r. ⌜ ReplyJudges a (now (s .entry)) r ⌝ }
 {
-    let head = frame::head_answer(Direction::Reply, a, s);
-    if head != answer::DONE {
-        return ReplyJudged::Refused(head);
+    let refusal = frame::frame_answer(Direction::Reply, a, s);
+    if refusal != answer::DONE {
+        return ReplyJudged::Refused(refusal);
     }
-    let row = row_of(s);
-    let kind = row.1;
-    let shape = row.2;
-    let tail = frame::tail_answer(a, shape.2, s);
-    if tail != answer::DONE {
-        return ReplyJudged::Refused(tail);
+    if frame::body_length(s) == 0 {
+        return ReplyJudged::Refused(answer::NULL_MESSAGE);
     }
-    let body = frame::body_answer(row.0, shape, s);
-    if body != answer::DONE {
-        return ReplyJudged::Refused(body);
+    match table::find_reply(s[2]) {
+        ReplyRow::Known(kind, shape) => {
+            if frame::length_right(shape, s) {
+                return ReplyJudged::Known(kind);
+            }
+            ReplyJudged::Refused(answer::WRONG_FIELD)
+        }
+        ReplyRow::Unknown => ReplyJudged::Refused(answer::UNKNOWN_COMMAND),
     }
-    ReplyJudged::Known(kind)
 }
 
 // The message of a reply that was judged, or its refusal.

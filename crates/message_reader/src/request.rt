@@ -8,8 +8,6 @@ ghost use Rattle.message_rules.specs.Message.{decode, requests};
 ghost use Rattle.message_rules.specs.Row as row;
 ghost use Rattle.message_reader.specs.Outcome.{RequestMeans};
 ghost use Rattle.message_reader.specs.Parts.{bodyIn};
-ghost use Rattle.message_reader.specs.Table.{RequestRows, found};
-ghost use Rattle.message_rules.specs.declared.Direction.the-variants.{Request};
 use crate::RequestRead;
 use crate::frame;
 use crate::table;
@@ -44,36 +42,24 @@ fn fields(kind: RequestKind, s: &[u8]) -> RequestRead
     }
 }
 
-// What the slice has for a body. An empty one has no command.
-fn row_of(s: &[u8]) -> RequestRow
-    requires { ⌜ 2 < length (now s) ⌝ }
-    ensures { λ r. ⌜ RequestRows (found Request (now (s .entry))) r ⌝ }
-{
-    if frame::body_length(s) == 0 {
-        return table::unread_request(answer::UNKNOWN_COMMAND);
-    }
-    table::find_request(s[2])
-}
-
-// Reads a request that came to an address: the message, or the first refusal in the papers' order. The row says which form of length byte is right, so it is found
-// before the frame's last tests.
+// Reads a request that came to an address: the message, or the first refusal in the papers' order.
 pub fn read_request(a: Address, s: &[u8]) -> RequestRead
     ensures { λ r. ⌜ RequestMeans (now (s .entry)) r (decode requests a (now (s .entry))) ⌝ }
 {
-    let head = frame::head_answer(Direction::Request, a, s);
-    if head != answer::DONE {
-        return RequestRead::Refused(head);
+    let refusal = frame::frame_answer(Direction::Request, a, s);
+    if refusal != answer::DONE {
+        return RequestRead::Refused(refusal);
     }
-    let row = row_of(s);
-    let kind = row.1;
-    let shape = row.2;
-    let tail = frame::tail_answer(a, shape.2, s);
-    if tail != answer::DONE {
-        return RequestRead::Refused(tail);
+    if frame::body_length(s) == 0 {
+        return RequestRead::Refused(answer::UNKNOWN_COMMAND);
     }
-    let body = frame::body_answer(row.0, shape, s);
-    if body != answer::DONE {
-        return RequestRead::Refused(body);
+    match table::find_request(s[2]) {
+        RequestRow::Known(kind, shape) => {
+            if frame::length_right(shape, s) {
+                return fields(kind, s);
+            }
+            RequestRead::Refused(answer::WRONG_FIELD)
+        }
+        RequestRow::Unknown => RequestRead::Refused(answer::UNKNOWN_COMMAND),
     }
-    fields(kind, s)
 }

@@ -6,10 +6,10 @@ use mathlib.Core.List.{List, [], _∷_, _++_}
 use Prim.Native.Nat.{ℕ, zero, suc, _+_, _-_, _≤_, _<_}
 use native.Mathlib.Nat.{sub-zero}
 use native.Mathlib.Omega.{arith}
-use lib.Dec.{eqb, leb}
+use lib.Dec.{eqb, leb, ltb}
 use lib.ListN.{length, getD, take, drop, length-take, length-drop}
 use lib.Seq.{drop-cons, take-suc}
-use borrow.Author.Tests.{leb-true, eqb-true, le-leb, lt-leb, eq-eqb, ne-eqb}
+use borrow.Author.Tests.{leb-true, eqb-true, le-leb, lt-leb, lt-ltb, eq-eqb, ne-eqb}
 use Rattle.checksum.specs.Xor.{xorAll}
 use Rattle.checksum.proofs.Laws.{xorAll-closed, xorAll-closes}
 use Rattle.message_rules.specs.declared.Address.{Address}
@@ -135,14 +135,29 @@ front n s h l =
     let one : n ≡ suc (n - 1) = omega arith in
     ap (λ (k : ℕ). take k (drop 2 s)) one ∙ ap (take (suc (n - 1))) (drop-cons s 2 0 l)
 
--- the form of the length byte, by the body's first byte
-pub plain-empty : (d : Direction) (s : List ℕ) → bodyLength s ≡ 0 → plain d (bodyOf s) ≡ false
-unfolding plain
-plain-empty d s z = ap (λ (n : ℕ). plain d (take n (drop 2 s))) z
+-- the form of the length byte, by the body's first byte: an empty body has none
+module _ (d : Direction) (s : List ℕ) (long : 2 < length s) where
+  plain-empty : bodyLength s ≡ 0 → plain d (bodyOf s) ≡ false
+  unfolding plain
+  plain-empty z = ap (λ (n : ℕ). plain d (take n (drop 2 s))) z
 
-pub plain-number : (d : Direction) (s : List ℕ) → 0 < bodyLength s → 2 < length s → plain d (bodyOf s) ≡ plainRow (rowOf d (getD s 2 0))
-unfolding plain
-plain-number d s some long = ap (plain d) (front (bodyLength s) s some long)
+  plain-number : 0 < bodyLength s → plain d (bodyOf s) ≡ plainRow (rowOf d (getD s 2 0))
+  unfolding plain
+  plain-number some = ap (plain d) (front (bodyLength s) s some long)
+
+  by-number : (n : ℕ) → bodyLength s ≡ n → plainRow (rowOf d (getD s 2 0)) ≡ true → plain d (bodyOf s) ≡ ltb 0 n
+  by-number zero z e = plain-empty z
+  by-number (suc n) z e = plain-number (omega arith) ∙ e ∙ sym (lt-ltb 0 (suc n) (omega arith))
+
+  never-plain : (n : ℕ) → bodyLength s ≡ n → plainRow (rowOf d (getD s 2 0)) ≡ false → plain d (bodyOf s) ≡ false
+  never-plain zero z e = plain-empty z
+  never-plain (suc n) z e = plain-number (omega arith) ∙ e
+
+  pub plain-listed : plainRow (rowOf d (getD s 2 0)) ≡ true → plain d (bodyOf s) ≡ ltb 0 (bodyLength s)
+  plain-listed = by-number (bodyLength s) refl
+
+  pub plain-other : plainRow (rowOf d (getD s 2 0)) ≡ false → plain d (bodyOf s) ≡ false
+  plain-other = never-plain (bodyLength s) refl
 
 -- ---- `decode`, as the code comes to it
 

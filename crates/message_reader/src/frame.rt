@@ -107,7 +107,7 @@ fn tail_answer(a: Address, plain: bool, s: &[u8]) -> u8
     answer::DONE
 }
 
-// Whether the length byte is to be plain, by the body's first byte. An empty body has none.
+// Whether the length byte is to be plain, by the body's first byte. An empty body has none, which is asked only where it matters.
 fn is_plain(direction: Direction, s: &[u8]) -> bool
     requires { ⌜ (2 < length (now s)) × (bodyLength (now s) + 3 ≤ length (now s)) ⌝ }
     ensures { λ r. ⌜ r ≡ plain direction (bodyOf (now (s .entry))) ⌝ }
@@ -115,10 +115,10 @@ fn is_plain(direction: Direction, s: &[u8]) -> bool
     match direction {
         Direction::Request => false,
         Direction::Reply => {
-            if body_length(s) == 0 {
-                return false;
+            if table::is_plain(s[2]) {
+                return 0 < body_length(s);
             }
-            table::is_plain(s[2])
+            false
         }
     }
 }

@@ -1,12 +1,12 @@
--- `message_reader::frame::is_plain` meets its contract: no request, no empty body, and else by the number.
+-- `message_reader::frame::is_plain` meets its contract: by the number, if there is one; and of no request.
 -- Assumes nothing.
 use mathlib.Core.Path.{_≡_, sym, ap, _∙_}
-use Prim.Native.Nat.{_<_}
-use native.Mathlib.Omega.{arith}
-use Rattle.message_rules.specs.Frame.{bodyLength, bodyOf, plain}
+use Prim.Native.Nat.{ℕ}
+use lib.Dec.{ltb}
+use Rattle.message_rules.specs.Frame.{bodyOf, plain}
 use Rattle.message_rules.specs.declared.Direction.{Direction}
 use Rattle.message_rules.specs.declared.Direction.the-variants.{Reply}
-use Rattle.message_reader.proofs.Parts.{plain-empty, plain-number}
+use Rattle.message_reader.proofs.Parts.{plain-listed, plain-other}
 use Rattle.message_reader.proofs.Rows.{requests-plain}
 use borrow.Author.Needs.{needs}
 use Rattle.message_reader.proofs.frame.is_plain.Statement.{statement}
@@ -18,31 +18,32 @@ enum-told c = search needs
 enum-told-2 : tie.Need-enum-told-2
 enum-told-2 c = search needs
 
-body-length-requires : tie.Need-body-length-requires
-body-length-requires c κs = search needs
-
-returns : tie.Need-returns
-returns c =
-    let a = c .before .before .before .before .before .args in
-    sym (ap (λ (d : Direction). plain d (bodyOf (a .s .now))) (c .before .before .enum-told2 .given .1) ∙ plain-empty Reply (a .s .now) (sym (c .before .body-length .ensures .0) ∙ c .if1 .taken))
-
 shared-slice-read-is-plain : tie.Need-shared-slice-read-is-plain
 shared-slice-read-is-plain c = search needs
 
 is-plain-requires : tie.Need-is-plain-requires
 is-plain-requires c κs = search needs
 
+body-length-requires : tie.Need-body-length-requires
+body-length-requires c κs = search needs
+
+returns : tie.Need-returns
+returns c =
+    let start = c .before .before .before .before .before .before .before in
+    let s = start .args .s .now in
+    ap (λ (n : ℕ). ltb 0 n) (c .body-length .ensures .0)
+    ∙ sym (ap (λ (d : Direction). plain d (bodyOf s)) (c .before .before .before .before .enum-told2 .given .1) ∙ plain-listed Reply s (start .pre .0) (sym (c .before .before .is-plain .ensures) ∙ c .before .if1 .taken))
+
 returns-2 : tie.Need-returns-2
 returns-2 c =
-    let a = c .before .before .before .args in
-    sym (ap (λ (d : Direction). plain d (bodyOf (a .s .now))) (c .enum-told .given .1) ∙ requests-plain (bodyOf (a .s .now)))
+    let s = c .before .before .before .args .s .now in
+    sym (ap (λ (d : Direction). plain d (bodyOf s)) (c .enum-told .given .1) ∙ requests-plain (bodyOf s))
 
 returns-3 : tie.Need-returns-3
 returns-3 c =
-    let a = c .before .before .before .before .before .before .before .args in
-    let some : 0 < bodyLength (a .s .now) = omega (arith, c .before .before .before .body-length .ensures .0, c .before .before .if1 .left) in
-    c .is-plain .ensures
-    ∙ sym (ap (λ (d : Direction). plain d (bodyOf (a .s .now))) (c .before .before .before .before .enum-told2 .given .1) ∙ plain-number Reply (a .s .now) some (c .before .before .before .before .before .before .before .pre .0))
+    let start = c .before .before .before .before .before .before in
+    let s = start .args .s .now in
+    sym (ap (λ (d : Direction). plain d (bodyOf s)) (c .before .before .before .enum-told2 .given .1) ∙ plain-other Reply s (start .pre .0) (sym (c .before .is-plain .ensures) ∙ c .if1 .left))
 
 pub is-plain-spec : {M : Type 1} → statement M
 is-plain-spec =
@@ -50,9 +51,9 @@ is-plain-spec =
     (tie.spec
     enum-told
     enum-told-2
-    body-length-requires
-    returns
     shared-slice-read-is-plain
     is-plain-requires
+    body-length-requires
+    returns
     returns-2
     returns-3)

@@ -1,7 +1,6 @@
 // Runs document 01's unmarked examples of capabilities strings, and strings of real monitors, against worked-out answers.
 // Writes one line a group: how many of its strings were answered right.
 use capabilities_rules::Reading;
-use capabilities_rules::limits::DEEPEST;
 use capabilities_rules::limits::MOST_NODES;
 use libc::STDOUT_FILENO;
 use message_rules::answer;

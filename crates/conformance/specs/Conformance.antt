@@ -11,7 +11,6 @@ use Rattle.display_rules.specs.State.{cursorOf, declare}
 use Rattle.display_rules.specs.Step.{lentWell, Outcome}
 use Rattle.display_rules.specs.Statements.{StepRule, Made, whole, touches}
 use Rattle.message_rules.specs.declared.TextKind.{TextKind}
-use Rattle.message_rules.specs.declared.TextKind.the-variants.{Capabilities, Table}
 use Rattle.display_rules.specs.declared.FragmentCursor.{FragmentCursor}
 use Rattle.display_rules.specs.declared.Display.{Display}
 use Rattle.transfer_rules.specs.Conforming.{Cursor, ConformingAct}

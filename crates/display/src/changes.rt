@@ -1,6 +1,5 @@
 // What a step does to the display itself. A message is judged and answered first, with a small result; the display, which is large, is then passed on once.
 ghost use mathlib.Core.Path.{_≡_};
-ghost use Rattle.message_rules.specs.Answer.{done};
 ghost use Rattle.settings.specs.Settings.{withPresent, saveAll};
 ghost use Rattle.display_rules.specs.State.{unsent, withSettings, withTable, withCursor};
 ghost use Rattle.display.specs.Changes.{kept, moved, stepped};

@@ -8,7 +8,6 @@ use Rattle.message_rules.specs.Answer.{done, wrongGrammar}
 use Rattle.message_rules.specs.Read.{ok}
 use Rattle.message_rules.specs.Message.{Request, get, set, timing, save, text, Reply, value, timingReply, textFragment, requests, replies, encode, decode, toDisplay, toHost}
 use Rattle.capabilities_rules.specs.Limits.{mostNodes, noParent}
-use Rattle.capabilities_rules.specs.Grammar.{Node}
 use Rattle.capabilities_rules.specs.Nodes.{nodesOf}
 use Rattle.capabilities_rules.specs.Outcome.{refused, outcome}
 use Rattle.capabilities_rules.specs.declared.Reading.the-variants.{Accepted}

@@ -1,8 +1,8 @@
 // Putting a message into the output.
 ghost use mathlib.Core.Path.{_≡_};
-ghost use mathlib.Core.Bool.{true, false};
+ghost use mathlib.Core.Bool.{true};
 ghost use mathlib.Core.List.{_++_};
-ghost use Prim.Native.Nat.{_+_, _/_, _%_, _≤_, _<_};
+ghost use Prim.Native.Nat.{_+_, _/_, _%_, _<_};
 ghost use lib.ListN.{length, take, set};
 ghost use Rattle.checksum.specs.Xor.{xorAll};
 ghost use Rattle.message_rules.specs.Frame.{closed};

@@ -1,7 +1,5 @@
 // Replies: the messages to the host.
-ghost use mathlib.Core.Path.{_≡_};
 ghost use mathlib.Core.Bool.{true};
-ghost use Prim.Native.Nat.{_≤_};
 ghost use lib.Dec.{leb};
 ghost use lib.ListN.{length};
 ghost use Rattle.message_rules.specs.Limits.{mostFragment};

@@ -1,5 +1,4 @@
 // Requests: the messages to the display.
-ghost use mathlib.Core.Path.{_≡_};
 ghost use Rattle.message_rules.specs.Message.{requests, get, set, timing, save, text, tableRead, tableWrite};
 ghost use Rattle.message_builder.specs.Output.{BuildsMessage};
 use crate::Built;

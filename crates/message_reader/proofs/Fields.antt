@@ -3,14 +3,13 @@
 use mathlib.Core.Path.{_≡_, refl, sym, ap, ap₂, _∙_}
 use Prim.Native.Nat.{ℕ, zero, suc, _+_, _-_, _*_, _≤_, _<_}
 use mathlib.Core.List.{List, [], _∷_}
-use mathlib.Core.Bool.{Bool}
 use native.Mathlib.Omega.{arith}
 use lib.ListN.{length, getD, take, drop}
 use lib.Seq.{getD-take, getD-drop, drop-drop, take-nil, take-take}
 use Rattle.message_rules.specs.Read.{Read, ok, require, andThen}
 use Rattle.message_rules.specs.Row.{Kind, Layout}
 use Rattle.message_rules.specs.Layout.{layoutOf, least, rule}
-use Rattle.message_rules.specs.Body.{Body, word, wordsIn, split}
+use Rattle.message_rules.specs.Body.{word, wordsIn}
 use Rattle.message_rules.specs.Frame.{bodyLength}
 use Rattle.message_rules.specs.Message.{Reading, asMessage, body}
 use Rattle.message_rules.proofs.Typed.{slots, slots-are}

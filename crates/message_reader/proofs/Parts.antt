@@ -1,6 +1,6 @@
 -- How the parts in which the code takes the ordered tests make up `decode`.
 -- Assumes nothing.
-use mathlib.Core.Path.{_≡_, refl, sym, ap, ap₂, _∙_, subst}
+use mathlib.Core.Path.{_≡_, refl, sym, ap, ap₂, _∙_}
 use mathlib.Core.Bool.{Bool, true, false, cond, _&&_}
 use mathlib.Core.List.{List, [], _∷_, _++_}
 use Prim.Native.Nat.{ℕ, zero, suc, _+_, _-_, _≤_, _<_}
@@ -9,13 +9,13 @@ use native.Mathlib.Omega.{arith}
 use lib.Dec.{eqb, leb, ltb}
 use lib.ListN.{length, getD, take, drop, length-take, length-drop}
 use lib.Seq.{drop-cons, take-suc}
-use borrow.Author.Tests.{leb-true, eqb-true, le-leb, lt-leb, lt-ltb, eq-eqb, ne-eqb}
+use borrow.Author.Tests.{leb-true, le-leb, lt-leb, lt-ltb, eq-eqb, ne-eqb}
 use Rattle.checksum.specs.Xor.{xorAll}
 use Rattle.checksum.proofs.Laws.{xorAll-closed, xorAll-closes}
 use Rattle.message_rules.specs.declared.Address.{Address}
 use Rattle.message_rules.specs.declared.Direction.{Direction}
 use Rattle.message_rules.specs.Read.{Read, ok, refused, unless, require, after, andThen}
-use Rattle.message_rules.specs.Row.{Kind, Layout, Row, Known, Unknown}
+use Rattle.message_rules.specs.Row.{Kind, Row, Known, Unknown}
 use Rattle.message_rules.specs.Layout.{layoutOf, least, longest, rule, rowOf}
 use Rattle.message_rules.specs.Body.{Body, split, lengthAllowed, byRow, decodeBody, emptyAnswer}
 use Rattle.message_rules.specs.Frame.{plainRow, plain, lengthByte, fits, bodyLength, bodyOf, agrees, frameAnswer}

@@ -2,7 +2,7 @@
 -- Assumes nothing.
 use mathlib.Core.Path.{_≡_, refl, sym, ap, _∙_, subst}
 use mathlib.Core.Bool.{Bool, true, false, cond, _&&_}
-use mathlib.Core.List.{List, [], _∷_}
+use mathlib.Core.List.{List}
 use Prim.Native.Nat.{ℕ, _+_, _-_, _/_, _%_, _≤_, _<_}
 use native.Mathlib.Omega.{arith}
 use lib.Dec.{eqb, ltb}
@@ -16,8 +16,8 @@ use Rattle.message_rules.specs.Row as kind
 use Rattle.message_rules.specs.Layout.{layoutOf, least}
 use Rattle.message_rules.specs.Body.{word}
 use Rattle.message_rules.specs.Frame.{bodyLength}
-use Rattle.message_rules.specs.Message.{Reading, asMessage, requests, replies, tableWrite, value, timingReply, textFragment, tableFragment, Reply}
-use Rattle.message_reader.specs.Outcome.{Meaning, RequestMeans, ReplyMeans, replyIn, ReplyInside, partOf}
+use Rattle.message_rules.specs.Message.{asMessage, requests, replies, tableWrite, value, timingReply, textFragment, tableFragment, Reply}
+use Rattle.message_reader.specs.Outcome.{Meaning, RequestMeans, ReplyMeans}
 use Rattle.message_reader.specs.Parts.{bodyIn}
 use Rattle.message_reader.specs.declared.RequestRead.{RequestRead}
 use Rattle.message_reader.specs.declared.RequestRead.the-variants as request

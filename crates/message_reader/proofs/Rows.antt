@@ -11,7 +11,7 @@ use Rattle.message_rules.specs.declared.Direction.{Direction}
 use Rattle.message_rules.specs.declared.Direction.the-variants as way
 use Rattle.message_rules.specs.Row.{Kind, Layout, Row, Known, Unknown}
 use Rattle.message_rules.specs.Row as kind
-use Rattle.message_rules.specs.Layout.{directionOf, layoutOf, rowOf}
+use Rattle.message_rules.specs.Layout.{layoutOf, rowOf}
 use Rattle.message_rules.specs.Frame.{plainRow, plain}
 use Rattle.message_rules.proofs.Rows.{found}
 use Rattle.message_reader.specs.declared.table.Shape.{Shape}

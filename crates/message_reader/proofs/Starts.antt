@@ -1,7 +1,7 @@
 -- The laws of `startsWith`, by which the null message is compared.
 -- Assumes nothing.
 use mathlib.Core.Path.{_≡_, refl, sym, ap, ap₂, _∙_}
-use Prim.Native.Nat.{ℕ, zero, suc, _+_, _≤_, _<_}
+use Prim.Native.Nat.{ℕ, _+_, _≤_, _<_}
 use mathlib.Core.List.{List, [], _∷_, _++_}
 use mathlib.Core.Bool.{Bool, true, false, _&&_}
 use native.Mathlib.Omega.{arith}
@@ -9,11 +9,11 @@ use native.Mathlib.Numerals.{add-one}
 use lib.ListN.{length, getD, drop, drop-of-length-le}
 use lib.Seq.{drop-cons}
 use lib.Dec.{eqb}
-use borrow.Author.Tests.{eqb-true, eq-eqb, ne-eqb}
+use borrow.Author.Tests.{eqb-true}
 use Rattle.checksum.specs.Xor.{xorAll}
 use Rattle.message_rules.specs.Frame.{frame, plain}
 use Rattle.message_rules.specs.Read.{refused}
-use Rattle.message_rules.specs.Message.{null, toHost, replies, decode}
+use Rattle.message_rules.specs.Message.{toHost, replies, decode}
 use Rattle.message_rules.proofs.Order.{null-read}
 use Rattle.message_rules.proofs.Tests.{and-true}
 use Rattle.message_reader.specs.Start.{startsWith, nullBytes}

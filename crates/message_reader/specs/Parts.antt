@@ -1,6 +1,6 @@
 -- The ordered tests of a message in the parts that the code takes them: before the command number is looked at, the frame's rest, the body's length.
 use Prim.Native.Nat.{ℕ, _+_, _-_}
-use mathlib.Core.Bool.{Bool, false, _&&_}
+use mathlib.Core.Bool.{Bool, _&&_}
 use mathlib.Core.List.{List}
 use lib.ListN.{length, getD, take, drop}
 use lib.Dec.{leb, eqb}

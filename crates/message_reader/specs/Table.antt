@@ -1,6 +1,5 @@
 -- The rows of the table as the code has them: a kind, and the shape of the bytes behind the command number.
-use Prim.Native.Nat.{ℕ}
-use Rattle.message_rules.specs.Row.{Kind, Layout, Row, Known, Unknown}
+use Rattle.message_rules.specs.Row.{Layout, Row, Known, Unknown}
 use Rattle.message_rules.specs.Row as kind
 use Rattle.message_rules.specs.Layout.{least}
 use Rattle.message_reader.specs.declared.table.Shape.{Shape}

@@ -1,8 +1,7 @@
 // The frame of a message: first byte, length byte and checksum, for either direction and any pair of address bytes.
 ghost use mathlib.Core.Path.{_≡_};
-ghost use mathlib.Core.List.{_∷_};
 ghost use Prim.Native.Nat.{_+_, _≤_, _<_};
-ghost use lib.ListN.{length, getD};
+ghost use lib.ListN.{length};
 ghost use Rattle.message_rules.specs.Body.{word};
 ghost use Rattle.message_rules.specs.Frame.{bodyLength, bodyOf, fits, lengthByte, plain, frameAnswer};
 ghost use Rattle.message_rules.specs.Layout.{longest};

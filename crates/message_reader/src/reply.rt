@@ -1,6 +1,5 @@
 // Replies: the messages to the host.
 ghost use mathlib.Core.Path.{_≡_};
-ghost use mathlib.Core.Bool.{_&&_};
 ghost use Prim.Native.Nat.{_+_, _-_, _≤_, _<_};
 ghost use lib.ListN.{length};
 ghost use Rattle.message_rules.specs.Frame.{bodyLength};

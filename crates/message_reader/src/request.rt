@@ -1,5 +1,4 @@
 // Requests: the messages to the display.
-ghost use mathlib.Core.Path.{_≡_};
 ghost use Prim.Native.Nat.{_+_, _-_, _≤_, _<_};
 ghost use lib.ListN.{length};
 ghost use Rattle.message_rules.specs.Frame.{bodyLength};

@@ -1,12 +1,12 @@
 -- The round trip of bodies, once over any layout.
 -- Assumes nothing.
 use mathlib.Core.Path.{_≡_, refl, sym, ap, ap₂, _∙_, subst}
-use mathlib.Core.Bool.{Bool, true, false, cond, _&&_}
-use mathlib.Core.List.{List, [], _∷_, _++_, append-assoc}
-use Prim.Native.Nat.{ℕ, zero, suc, _+_, _-_, _*_, _/_, _%_, _≤_, _<_}
+use mathlib.Core.Bool.{Bool, true, _&&_}
+use mathlib.Core.List.{List, [], _∷_, _++_}
+use Prim.Native.Nat.{ℕ, zero, suc, _+_, _-_, _*_, _/_, _%_, _≤_}
 use native.Mathlib.Omega.{arith}
-use lib.Dec.{eqb, leb}
-use lib.ListN.{length, getD, take, drop, length-append, length-take, length-drop, take-append-drop}
+use lib.Dec.{leb}
+use lib.ListN.{length, take, drop, length-append, length-drop, take-append-drop}
 use lib.Seq.{take-at, drop-at, drop-drop, length-take-le}
 use borrow.Author.Tests.{le-leb, leb-true}
 use Rattle.checksum.specs.Bytes as byte
@@ -14,9 +14,9 @@ use Rattle.checksum.specs.Bytes.{Bytes}
 use Rattle.checksum.proofs.Bytes.{bytes-take, bytes-drop}
 use Rattle.message_rules.specs.declared.Direction.{Direction}
 use Rattle.message_rules.specs.Row.{Layout, Kind, Row, Known, Unknown}
-use Rattle.message_rules.specs.Read.{Read, ok, refused, require}
+use Rattle.message_rules.specs.Read.{ok, require}
 use Rattle.message_rules.specs.Layout.{entry, directionOf, layoutOf, least, longest, rule, rowOf}
-use Rattle.message_rules.specs.Body.{Body, fields, behind, encodeBody, word, wordsIn, split, lengthAllowed, byRow, decodeBody, emptyAnswer, Words, none, more, ValidBody}
+use Rattle.message_rules.specs.Body.{Body, fields, behind, encodeBody, wordsIn, split, lengthAllowed, byRow, decodeBody, Words, none, more, ValidBody}
 use Rattle.message_rules.proofs.Tests.{require-ok, and-true}
 use Rattle.message_rules.proofs.Rows.{right, found}
 

@@ -1,9 +1,9 @@
 -- What is encoded is bytes.
 -- Assumes nothing.
-use mathlib.Core.Path.{_≡_, sym, subst}
+use mathlib.Core.Path.{sym, subst}
 use mathlib.Core.Bool.{Bool, true, false}
-use mathlib.Core.List.{List, [], _∷_, _++_}
-use Prim.Native.Nat.{ℕ, _/_, _%_, _≤_, _<_}
+use mathlib.Core.List.{List, _++_}
+use Prim.Native.Nat.{ℕ, _/_, _%_, _<_}
 use native.Mathlib.Omega.{arith}
 use lib.ListN.{length}
 use lib.Bits.{bitXor, xor-lt}
@@ -12,7 +12,7 @@ use Rattle.checksum.specs.Xor.{xorAll}
 use Rattle.checksum.proofs.Laws.{xorAll-nil, xorAll-cons}
 use Rattle.message_rules.specs.declared.Address.{Address}
 use Rattle.message_rules.specs.declared.Direction.{Direction}
-use Rattle.message_rules.specs.Layout.{entry, directionOf}
+use Rattle.message_rules.specs.Layout.{directionOf}
 use Rattle.message_rules.specs.Body as body
 use Rattle.message_rules.specs.Body.{Body, fields, encodeBody, Words, ValidBody}
 use Rattle.message_rules.specs.Frame.{lengthByte, plain, frame}

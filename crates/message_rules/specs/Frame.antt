@@ -1,7 +1,7 @@
 -- Document 01, "Messages on the wire": first byte, length byte, body and checksum (the papers' check), over the direction and the pair of address bytes.
-use Prim.Native.Nat.{ℕ, _+_, _-_, _%_}
+use Prim.Native.Nat.{ℕ, _+_, _%_}
 use mathlib.Core.List.{List, [], _∷_, _++_}
-use mathlib.Core.Bool.{Bool, true, false, cond, _&&_}
+use mathlib.Core.Bool.{Bool, false, cond, _&&_}
 use lib.ListN.{length, getD, take, drop}
 use lib.Dec.{leb, eqb}
 use Rattle.checksum.specs.Xor.{xorAll}

@@ -8,7 +8,7 @@ use lib.Dec.{leb, eqb}
 use Rattle.checksum.specs.Bytes.{Bytes}
 use Rattle.checksum.specs.Xor.{xorAll}
 use Rattle.message_rules.specs.Answer.{done, tooShort, wrongFirstByte, wrongLength, wrongChecksum, nullMessage, unknownCommand, wrongField}
-use Rattle.message_rules.specs.Read.{Read, ok, refused, answerOf, unless}
+use Rattle.message_rules.specs.Read.{ok, refused, answerOf, unless}
 use Rattle.message_rules.specs.Layout.{rule, rowOf}
 use Rattle.message_rules.specs.Body.{lengthAllowed}
 use Rattle.message_rules.specs.Frame.{agrees, bodyLength, bodyOf, messageIn}

@@ -21,7 +21,7 @@ ghost use Prim.Native.Nat.{_+_, _*_, _/_, _≤_, _<_};
 ghost use lib.ListN.{length, drop};
 ghost use Rattle.codes.specs.Codes.{member};
 ghost use Rattle.profile_rules.specs.Records.{valueRecord, recordSize, wordAt, beginsWithRecord};
-ghost use Rattle.profile_rules.specs.Profile.{codesFrom, recordsOf, Outcome, writeProfile, recordAnswer, judgeProfile, loadProfile};
+ghost use Rattle.profile_rules.specs.Profile.{codesFrom, recordsOf, writeProfile, recordAnswer, judgeProfile, loadProfile};
 ghost use Rattle.profile.specs.Parts.{keptWord, keptWords, put, judgedAt, storedRecords};
 
 fn wide(x: u8) -> usize

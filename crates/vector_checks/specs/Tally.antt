@@ -1,5 +1,5 @@
 -- Counting, in 32 bits.
-use Prim.Native.Nat.{ℕ, _+_, _%_, _^_}
+use Prim.Native.Nat.{_+_, _%_, _^_}
 use mathlib.Core.Bool.{Bool, cond}
 use Rattle.vector_checks.specs.declared.tally.Tally.{Tally}
 

@@ -1,6 +1,6 @@
 -- `capabilities::is_letter` meets its contract: what is left of the bytes from 21 on without the brackets is a letter up to 7E.
 use Prim.Native.Nat.{ℕ, _≤_}
-use mathlib.Core.Path.{_≡_, refl, sym, ap, _∙_}
+use mathlib.Core.Path.{_≡_, refl, sym}
 use mathlib.Core.Bool.{Bool, true, false, cond}
 use native.Mathlib.Omega.{arith}
 use lib.Dec.{leb}

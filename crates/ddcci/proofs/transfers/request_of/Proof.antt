@@ -1,6 +1,6 @@
 -- `ddcci::transfers::request_of` meets its contract.
 -- Assumes nothing.
-use mathlib.Core.Path.{_≡_, sym, ap, _∙_, subst}
+use mathlib.Core.Path.{subst}
 use Rattle.transfer_rules.specs.Transfer as rules
 use Rattle.transfer_rules.specs.declared.Transfer.{Transfer}
 use Rattle.ddcci.specs.Transfers.{Requests}

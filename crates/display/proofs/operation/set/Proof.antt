@@ -1,5 +1,5 @@
 -- `display::operation::set` meets its contract. Judging is the settings'; where they store, the answer is 0.
-use mathlib.Core.Path.{_≡_, sym, ap, _∙_}
+use mathlib.Core.Path.{sym, ap, _∙_}
 use Rattle.settings.specs.declared.Judgement.{Judgement}
 use Rattle.display.proofs.Laws.{set-stored, set-kept}
 use borrow.Author.Needs.{needs}

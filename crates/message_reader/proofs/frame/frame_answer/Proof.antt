@@ -1,6 +1,6 @@
 -- `message_reader::frame::frame_answer` meets its contract: the head's answer, else the tail's.
 -- Assumes nothing.
-use mathlib.Core.Path.{_≡_, sym, ap, _∙_}
+use mathlib.Core.Path.{sym, ap, _∙_}
 use mathlib.Core.Bool.{Bool}
 use native.Mathlib.Omega.{arith}
 use Rattle.message_reader.specs.Parts.{tailAnswer}

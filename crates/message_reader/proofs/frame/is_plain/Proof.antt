@@ -1,6 +1,6 @@
 -- `message_reader::frame::is_plain` meets its contract: by the number, if there is one; and of no request.
 -- Assumes nothing.
-use mathlib.Core.Path.{_≡_, sym, ap, _∙_}
+use mathlib.Core.Path.{sym, ap, _∙_}
 use Prim.Native.Nat.{ℕ}
 use lib.Dec.{ltb}
 use Rattle.message_rules.specs.Frame.{bodyOf, plain}

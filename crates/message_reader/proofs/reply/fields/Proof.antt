@@ -1,6 +1,6 @@
 -- `message_reader::reply::fields` meets its contract: an arm for each kind, its fields at their positions.
 -- Assumes nothing.
-use mathlib.Core.Path.{_≡_, refl, sym, _∙_}
+use mathlib.Core.Path.{sym, _∙_}
 use native.Mathlib.Omega.{arith}
 use Rattle.message_reader.proofs.Readings.{least-reply, reply-read}
 use borrow.Author.Needs.{needs}

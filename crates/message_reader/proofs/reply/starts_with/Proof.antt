@@ -1,6 +1,6 @@
 -- `message_reader::reply::starts_with` meets its contract. The invariant: what is left of both from i on is judged as the whole. The measure is what is left of p.
 -- Assumes nothing.
-use Prim.Native.Nat.{ℕ, _+_, _-_, _≤_, _<_}
+use Prim.Native.Nat.{ℕ, _+_, _-_, _≤_}
 use mathlib.Core.Path.{_≡_, refl, sym, ap, _∙_}
 use mathlib.Core.Bool.{Bool, _&&_}
 use mathlib.Core.List.{List}

@@ -1,6 +1,6 @@
 -- `message_reader::request::fields` meets its contract: an arm for each kind, its fields at their positions.
 -- Assumes nothing.
-use mathlib.Core.Path.{_≡_, refl, sym, ap, ap₂, _∙_}
+use mathlib.Core.Path.{refl}
 use native.Mathlib.Omega.{arith}
 use Rattle.message_reader.proofs.Readings.{least-request, request-read}
 use borrow.Author.Needs.{needs}

@@ -23,6 +23,7 @@ use message_reader::request::read_request;
 use message_rules::TO_DISPLAY;
 use message_rules::TextKind;
 use message_rules::answer;
+use message_rules::fields::status_allowed;
 use message_rules::limits::LONGEST_TEXT;
 use message_rules::limits::MOST_FRAGMENT;
 use message_rules::limits::OUTPUT_ROOM;
@@ -55,7 +56,7 @@ pub fn empty() -> Display
 fn start_answer(status: u8, text: usize, size: u16) -> u8
     ensures { λ r. ⌜ r ≡ startAnswer status text size ⌝ }
 {
-    if status / 4 % 16 != 0 {
+    if !status_allowed(status) {
         return answer::NOT_DECLARABLE;
     }
     if LONGEST_TEXT < text {

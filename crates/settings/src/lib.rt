@@ -7,6 +7,7 @@ use message_rules::answer::CODE_NOT_ALLOWED;
 use message_rules::answer::DONE;
 use message_rules::answer::NOT_DECLARABLE;
 use message_rules::answer::VALUE_TOO_LARGE;
+use message_rules::fields::status_allowed;
 ghost use mathlib.Core.Path.{_≡_};
 ghost use lib.ListN.{getD};
 ghost use Rattle.codes.specs.Codes.{member};
@@ -107,8 +108,7 @@ pub fn empty() -> Settings
 pub fn start(timing: Timing) -> Change
     ensures { λ r. ⌜ r ≡ startWith timing ⌝ }
 {
-    let reserved = timing.status / 4 % 16;
-    if reserved == 0 {
+    if status_allowed(timing.status) {
         let settings = starting(timing);
         return Change {
             answer: DONE,

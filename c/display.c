@@ -1,4 +1,4 @@
-/* What a controller does with Paneknoll's display: start it, declare brightness, and answer messages.
+/* What a controller does with Paneknoll's display: start it, declare brightness, answer messages, and keep its profile.
  *
  *     cc -Iinclude c/display.c target/staticlib/libddcci_display.a -o display && ./display
  */
@@ -21,6 +21,23 @@ static ddcci_display answer(ddcci_display display, const char *what, const uint8
     return step.display;
 }
 
+/* Writes the profile, and loads it with its value changed: a value above the maximum is refused. */
+static ddcci_display keep(ddcci_display display) {
+    uint8_t sheet[DDCCI_DISPLAY_LONGEST_PROFILE];
+    ddcci_display_written written = ddcci_display_write_profile(display, sheet, sizeof sheet);
+    printf("profile: answer %u, bytes", written.answer);
+    for (size_t i = 0; i < written.length; i++) {
+        printf(" %02X", sheet[i]);
+    }
+    sheet[5] = 101;
+    ddcci_display_loaded loaded = ddcci_display_load_profile(display, sheet, written.length);
+    printf("\nloaded with 101: answer %u at %zu\n", loaded.answer, loaded.position);
+    sheet[5] = 70;
+    loaded = ddcci_display_load_profile(loaded.display, sheet, written.length);
+    printf("loaded with 70: answer %u at %zu\n", loaded.answer, loaded.position);
+    return loaded.display;
+}
+
 int main(void) {
     const ddcci_display_timing timing = {2, 13340, 6000};
     const ddcci_display_declaration brightness = {0x10, true, true, 0, true, 100, 50};
@@ -30,6 +47,7 @@ int main(void) {
 
     const uint8_t get[] = {0x51, 0x82, 0x01, 0x10, 0xAC};
     const uint8_t set[] = {0x51, 0x84, 0x03, 0x10, 0x00, 0x64, 0xCC};
+    const uint8_t save[] = {0x51, 0x81, 0x0C, 0xB2};
     const uint8_t read[] = {0x51, 0x83, 0xF3, 0x00, 0x00, 0x4F};
     const uint8_t next[] = {0x51, 0x83, 0xF3, 0x00, 0x05, 0x4A};
     display = answer(display, "get", get, sizeof get);
@@ -37,5 +55,7 @@ int main(void) {
     display = answer(display, "get", get, sizeof get);
     display = answer(display, "text at 0", read, sizeof read);
     display = answer(display, "text at 5", next, sizeof next);
-    return display.settings.present[0x10] == 100 ? 0 : 1;
+    display = answer(display, "save", save, sizeof save);
+    display = keep(display);
+    return display.settings.present[0x10] == 70 ? 0 : 1;
 }

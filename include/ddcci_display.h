@@ -2,7 +2,8 @@
  *
  * Every function is proved, for all inputs, to be safe, to end and to answer as document 01 says. A slice is a pointer and a length; a length of 0 may go with any pointer that is not null. The display is a struct by value: a
  * call is given the display as the last one left it. Answer numbers: 0 done; 1 a lent buffer has the wrong size; 2 under 3 bytes; 3 first byte wrong; 4 length byte wrong; 5 checksum wrong; 6 command
- * unknown; 7 length or field wrong for the command; 8 code not allowed; 9 value above the maximum; 10 offset above the table's length; 11 text too long; 18 declaration, timing or fragment size not allowed.
+ * unknown; 7 length or field wrong for the command; 8 code not allowed; 9 value above the maximum; 10 offset above the table's length; 11 text too long; 17 profile broken; 18 declaration, timing or fragment size not
+ * allowed.
  * A refusal changes nothing, except that the null message is put into the output on 6, and on 8 of a Table read. */
 #ifndef PANEKNOLL_DDCCI_DISPLAY_H
 #define PANEKNOLL_DDCCI_DISPLAY_H
@@ -18,6 +19,8 @@ extern "C" {
 /* The bytes of a table's buffer, and the least of an output. */
 #define DDCCI_DISPLAY_TABLE_ROOM 1024
 #define DDCCI_DISPLAY_OUTPUT_ROOM 38
+/* The bytes of the longest profile: 7 for each code but F4. */
+#define DDCCI_DISPLAY_LONGEST_PROFILE 1785
 /* The text that a fragment was sent of; 0 is none. */
 #define DDCCI_DISPLAY_SENT_CAPABILITIES 1
 #define DDCCI_DISPLAY_SENT_TABLE 2
@@ -85,6 +88,19 @@ typedef struct {
     uint8_t text;
 } ddcci_display_stepped;
 
+/* An answer number, and the length of the profile at the start of the output. */
+typedef struct {
+    uint8_t answer;
+    size_t length;
+} ddcci_display_written;
+
+/* The display afterwards, an answer number, and the start of the profile's record that was refused, or the profile's end. */
+typedef struct {
+    ddcci_display display;
+    uint8_t answer;
+    size_t position;
+} ddcci_display_loaded;
+
 /* A display with a timing, a capabilities string of at most 4,096 bytes and fragments of 1 to 32, and no code declared yet; or an empty display. */
 ddcci_display_changed ddcci_display_start(ddcci_display_timing timing, const uint8_t *text, size_t text_length, uint16_t size);
 
@@ -93,6 +109,12 @@ ddcci_display_changed ddcci_display_declare(ddcci_display display, ddcci_display
 
 /* One message. The capabilities string has its starting length, the table's buffer DDCCI_DISPLAY_TABLE_ROOM bytes, the output at least DDCCI_DISPLAY_OUTPUT_ROOM. */
 ddcci_display_stepped ddcci_display_step(ddcci_display display, const uint8_t *text, size_t text_length, uint8_t *table, size_t table_length, const uint8_t *message, size_t message_length, uint8_t *out, size_t out_length);
+
+/* The profile of the saved values, a record of 7 bytes for each code that is readable, writable and kept; 1 where the output is too short. */
+ddcci_display_written ddcci_display_write_profile(ddcci_display display, uint8_t *out, size_t out_length);
+
+/* A profile's values become present and saved; or 8, 9 or 17 with a position, and the same display. */
+ddcci_display_loaded ddcci_display_load_profile(ddcci_display display, const uint8_t *profile, size_t profile_length);
 
 #ifdef __cplusplus
 }

@@ -4,8 +4,9 @@ ghost use lib.ListN.{length};
 ghost use Rattle.message_rules.specs.Answer.{done};
 ghost use Rattle.display_rules.specs.State.{start, declare, withCursor};
 ghost use Rattle.display_rules.specs.Step.{step};
+ghost use Rattle.profile_rules.specs.Profile.{writeProfile, loadProfile};
 ghost use Rattle.display_rules.specs.declared.Found.the-variants.{Nothing, Fragment};
-ghost use Rattle.ddcci_display.specs.Numbers.{textNumber, numbers, Steps};
+ghost use Rattle.ddcci_display.specs.Numbers.{textNumber, numbers, Steps, loadedNumbers};
 use display::changes;
 use display::changes::Pending;
 use display_rules::Changed;
@@ -13,6 +14,7 @@ use display_rules::Display;
 use display_rules::FragmentCursor;
 use message_rules::TextKind;
 use message_rules::answer;
+use profile_rules::Written;
 use settings::Declaration;
 use settings::Timing;
 
@@ -31,6 +33,14 @@ pub struct DisplayStepped {
     pub offset: usize,
     pub count: usize,
     pub text: u8,
+}
+
+// What loading a profile returns: the display afterwards, the answer number, and the position in the profile that was refused, or its end.
+#[repr(C)]
+pub struct DisplayLoaded {
+    pub display: Display,
+    pub answer: u8,
+    pub position: usize,
 }
 
 // A display with a timing, a capabilities string and a fragment size, and no code declared yet.
@@ -125,5 +135,29 @@ pub extern "C" fn ddcci_display_step(
         Pending::Refused(answer, length) => {
             return plain(d, answer, length);
         }
+    }
+}
+
+// The profile of the display's saved values, into the output.
+#[no_mangle]
+pub extern "C" fn ddcci_display_write_profile(d: Display, out: &mut [u8]) -> Written
+    ensures { λ r. ⌜ record { result = r; output = now (out .exit) } ≡ writeProfile (d .settings) (now (out .entry)) ⌝ }
+{
+    profile::write(d.settings, out)
+}
+
+// A profile's values become present and saved, or nothing changes.
+#[no_mangle]
+pub extern "C" fn ddcci_display_load_profile(mut d: Display, profile: &[u8]) -> DisplayLoaded
+    ensures { λ r. ⌜ r ≡ loadedNumbers d (loadProfile (d .settings) (now (profile .entry))) ⌝ }
+{
+    let loaded = profile::load(d.settings, profile);
+    let settings = loaded.settings;
+    let position = loaded.position;
+    d.settings = settings;
+    DisplayLoaded {
+        display: d,
+        answer: loaded.answer,
+        position: position.0,
     }
 }

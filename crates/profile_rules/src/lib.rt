@@ -11,6 +11,7 @@ pub const RECORD_LENGTH: u16 = 5;
 pub const VALUE_KIND: u16 = 1;
 
 // What writing answers: the number, and how many bytes were written.
+#[repr(C)]
 pub struct Written {
     pub answer: u8,
     pub length: usize,

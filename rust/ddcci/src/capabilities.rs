@@ -1,7 +1,6 @@
 //! Capabilities strings and their trees.
 use crate::raw;
-use crate::refusal::Refusal;
-use std::fmt;
+use crate::refusal::RefusedAt;
 
 /// The most nodes of a tree.
 pub const MOST_NODES: usize = 512;
@@ -26,23 +25,6 @@ impl Default for Nodes {
         }
     }
 }
-
-/// Why a capabilities string was refused, and where.
-#[derive(Debug, Clone, Copy, PartialEq, Eq)]
-pub struct RefusedAt {
-    /// The refusal: 11, 13, 14 or 15.
-    pub refusal: Refusal,
-    /// The position in the string.
-    pub position: usize,
-}
-
-impl fmt::Display for RefusedAt {
-    fn fmt(&self, f: &mut fmt::Formatter<'_>) -> fmt::Result {
-        write!(f, "{} at {}", self.refusal, self.position)
-    }
-}
-
-impl std::error::Error for RefusedAt {}
 
 /// A capabilities string with its tree, in text order.
 ///
@@ -95,10 +77,8 @@ impl<'a> Capabilities<'a> {
                 MOST_NODES,
             )
         };
-        match Refusal::check(r.answer) {
-            Ok(()) => Ok(Capabilities { text, nodes, count: r.nodes }),
-            Err(refusal) => Err(RefusedAt { refusal, position: r.position }),
-        }
+        RefusedAt::check(r.answer, r.position)?;
+        Ok(Capabilities { text, nodes, count: r.nodes })
     }
 
     /// The number of nodes.
@@ -173,8 +153,5 @@ pub fn read_into(
             groups.len(),
         )
     };
-    match Refusal::check(r.answer) {
-        Ok(()) => Ok(r.nodes),
-        Err(refusal) => Err(RefusedAt { refusal, position: r.position }),
-    }
+    RefusedAt::check(r.answer, r.position).map(|()| r.nodes)
 }

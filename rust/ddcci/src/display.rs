@@ -1,11 +1,14 @@
 //! A display: it answers a host's requests.
 use crate::raw;
-use crate::refusal::Refusal;
+use crate::refusal::{Refusal, RefusedAt};
 use crate::transfer::TextKind;
 use std::ops::Range;
 
 /// The bytes of a table's buffer.
 pub const TABLE_ROOM: usize = 1024;
+
+/// The bytes of the longest profile: 7 for each code but F4.
+pub const LONGEST_PROFILE: usize = 1785;
 
 /// The timing that a display reports. Bits 5 to 2 of the status are 0.
 #[repr(C)]
@@ -96,5 +99,31 @@ impl Display {
             _ => None,
         };
         Step { answer: Refusal::check(r.answer), length: r.length, found }
+    }
+
+    /// Writes the profile of the saved values to the start of the output: 7 bytes for each code that is readable, writable and kept. Returns its length; [`LONGEST_PROFILE`] bytes are always enough.
+    pub fn write_profile(&self, out: &mut [u8]) -> Result<usize, Refusal> {
+        let r = unsafe { raw::ddcci_display_write_profile(self.0, out.as_mut_ptr(), out.len()) };
+        Refusal::check(r.answer).map(|()| r.length)
+    }
+
+    /// Loads a profile: its values become present and saved. A refusal tells the record, and changes nothing.
+    ///
+    /// ```
+    /// # use ddcci::{Declaration, Display, Refusal, Timing};
+    /// # let mut display = Display::start(Timing::default(), b"", 32)?;
+    /// # display.declare(Declaration { code: 0x10, readable: true, writable: true, kind: 0, continuous: true, maximum: 100, present: 50 })?;
+    /// let mut sheet = [0; 7];
+    /// assert_eq!(display.write_profile(&mut sheet)?, 7);
+    /// assert_eq!(sheet, [5, 0, 1, 0, 0x10, 50, 0]);
+    /// sheet[5] = 101;
+    /// let refused = display.load_profile(&sheet).unwrap_err();
+    /// assert_eq!((refused.refusal, refused.position), (Refusal::ValueTooLarge, 0));
+    /// # Ok::<(), ddcci::Refusal>(())
+    /// ```
+    pub fn load_profile(&mut self, profile: &[u8]) -> Result<(), RefusedAt> {
+        let r = unsafe { raw::ddcci_display_load_profile(self.0, profile.as_ptr(), profile.len()) };
+        self.0 = r.display;
+        RefusedAt::check(r.answer, r.position)
     }
 }

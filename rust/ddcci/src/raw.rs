@@ -183,6 +183,14 @@ pub struct DisplayStepped {
     pub text: u8,
 }
 
+#[repr(C)]
+#[derive(Clone, Copy)]
+pub struct DisplayLoaded {
+    pub display: Display,
+    pub answer: u8,
+    pub position: usize,
+}
+
 extern "C" {
     pub fn ddcci_display_start(timing: Timing, text: *const u8, text_len: usize, size: u16) -> DisplayChanged;
     pub fn ddcci_display_declare(display: Display, declaration: Declaration) -> DisplayChanged;
@@ -197,4 +205,6 @@ extern "C" {
         out: *mut u8,
         out_len: usize,
     ) -> DisplayStepped;
+    pub fn ddcci_display_write_profile(display: Display, out: *mut u8, out_len: usize) -> Built;
+    pub fn ddcci_display_load_profile(display: Display, profile: *const u8, profile_len: usize) -> DisplayLoaded;
 }

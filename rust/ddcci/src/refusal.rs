@@ -95,3 +95,28 @@ impl fmt::Display for Refusal {
 }
 
 impl std::error::Error for Refusal {}
+
+/// Why a capabilities string or a profile was refused, and where.
+#[derive(Debug, Clone, Copy, PartialEq, Eq)]
+pub struct RefusedAt {
+    /// The refusal: of a capabilities string 11, 13, 14 or 15, of a profile 8, 9 or 17.
+    pub refusal: Refusal,
+    /// The position in the string, or of the record in the profile.
+    pub position: usize,
+}
+
+impl RefusedAt {
+    /// `Ok` for answer 0, else the refusal with its position.
+    #[inline]
+    pub(crate) fn check(number: u8, position: usize) -> Result<(), RefusedAt> {
+        Refusal::check(number).map_err(|refusal| RefusedAt { refusal, position })
+    }
+}
+
+impl fmt::Display for RefusedAt {
+    fn fmt(&self, f: &mut fmt::Formatter<'_>) -> fmt::Result {
+        write!(f, "{} at {}", self.refusal, self.position)
+    }
+}
+
+impl std::error::Error for RefusedAt {}

@@ -19,6 +19,10 @@ set to 100: answer 0, reply, text 0, 0 bytes from 0
 get: answer 0, reply 6E 88 02 00 10 00 00 64 00 64 A4, text 0, 0 bytes from 0
 text at 0: answer 0, reply 6E 88 E3 00 00 28 76 63 70 28 30, text 1, 5 bytes from 0
 text at 5: answer 0, reply 6E 88 E3 00 05 31 30 20 46 34 03, text 1, 5 bytes from 5
+save: answer 0, reply, text 0, 0 bytes from 0
+profile: answer 0, bytes 05 00 01 00 10 64 00
+loaded with 101: answer 9 at 0
+loaded with 70: answer 0 at 7
 ";
 
 /// The bytes that a step gives to `memcpy`, by the message. 1,696 is one copy of a display of 1,720 bytes; its single numbers are moved one by one. An array of 512 bytes that is read or stored to at a variable index is

@@ -1,9 +1,10 @@
 //! The display beside the oracle's: the same answers, replies, tables and fragments over random histories of messages, whole and damaged.
 mod common;
 use common::rounds;
-use ddcci::{Declaration, Display, Request, TextKind, Timing, OUTPUT_ROOM, TABLE_ROOM};
+use ddcci::{Declaration, Display, Request, TextKind, Timing, LONGEST_PROFILE, OUTPUT_ROOM, TABLE_ROOM};
 use oracle::display as slow;
 use oracle::line::Random;
+use oracle::profile;
 use oracle::settings as slow_settings;
 
 const TEXT: &[u8] = b"(prot(monitor)type(LCD)cmds(01 02 03 07 0C E2 E3 E7 F3)vcp(10 12 14(05 08) F4))";
@@ -72,6 +73,67 @@ fn random_histories() {
             assert_eq!(found, fragment, "{message:02X?}");
             reached = step.found.map_or(0, |(_, place)| place.end as u16);
             assert_eq!((x, a), (y, b), "{message:02X?}");
+        }
+    }
+}
+
+/// A profile, whole or damaged: other values, a byte changed, bytes missing or too many.
+fn damaged(r: &mut Random, sheet: &[u8]) -> Vec<u8> {
+    let mut bytes = sheet.to_vec();
+    for record in bytes.chunks_exact_mut(7) {
+        record[5] = r.below(220) as u8;
+    }
+    let at = r.below(bytes.len() + 1);
+    match r.below(6) {
+        0 => bytes.truncate(at),
+        1 => bytes.extend(sheet.iter().take(1 + r.below(9))),
+        2 if at < bytes.len() => bytes[at] ^= 1 << r.below(8),
+        3 => bytes = sheet.to_vec(),
+        _ => {}
+    }
+    bytes
+}
+
+/// The messages that change settings, the same to both.
+fn set_and_save(r: &mut Random, ours: &mut Display, theirs: &mut slow::Display) {
+    let (mut table, mut out) = ([0; TABLE_ROOM], [0; OUTPUT_ROOM]);
+    for _ in 0..r.below(40) {
+        let request = match r.below(8) {
+            0 => Request::Save,
+            _ => Request::Set { code: 0xE0 + r.below(32) as u8, value: r.below(220) as u16 },
+        };
+        let message = request.to_bytes().unwrap();
+        let step = ours.step(TEXT, &mut table, &message, &mut out);
+        assert_eq!(number(step.answer), theirs.step(TEXT, &mut table, &message, &mut out).0);
+    }
+}
+
+#[test]
+fn profiles() {
+    let mut r = Random::new(8);
+    for _ in 0..rounds(2000) {
+        let (mut ours, mut theirs) = started(&mut r);
+        set_and_save(&mut r, &mut ours, &mut theirs);
+        let (mut x, mut y) = ([0xAA; LONGEST_PROFILE], [0xAA; LONGEST_PROFILE]);
+        let room = if r.below(4) > 0 { LONGEST_PROFILE } else { r.below(100) };
+        let written = profile::write(&theirs.settings, &mut y[..room]);
+        assert_eq!(ours.write_profile(&mut x[..room]).map_err(ddcci::Refusal::number), written);
+        assert_eq!(x, y);
+        let sheet = damaged(&mut r, &x[..written.unwrap_or(0)]);
+        let before = ours.clone();
+        let loaded = ours.load_profile(&sheet).map_err(|refused| (refused.refusal.number(), refused.position));
+        assert_eq!(loaded, profile::load(&mut theirs.settings, &sheet), "{sheet:02X?}");
+        assert!(loaded.is_ok() || ours == before);
+        // what was loaded shows in the next profile, and in every Get
+        let n = profile::write(&theirs.settings, &mut y).unwrap();
+        assert_eq!(ours.write_profile(&mut x), Ok(n));
+        assert_eq!(x[..n], y[..n]);
+        for code in 0..=255 {
+            let message = Request::Get { code }.to_bytes().unwrap();
+            let (mut table, mut a, mut b) = ([0; TABLE_ROOM], [0; OUTPUT_ROOM], [0; OUTPUT_ROOM]);
+            ours.step(TEXT, &mut table, &message, &mut a);
+            theirs.step(TEXT, &mut table, &message, &mut b);
+            assert_eq!(a, b, "{code:02X}");
         }
     }
 }

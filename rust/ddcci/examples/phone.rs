@@ -48,7 +48,7 @@ fn code(word: &[u8]) -> Option<u8> {
 }
 
 fn bytes(hex: &str) -> Option<Vec<u8>> {
-    if hex.is_empty() || hex.len() % 2 != 0 {
+    if hex.is_empty() || !hex.len().is_multiple_of(2) {
         return None;
     }
     (0..hex.len()).step_by(2).map(|i| u8::from_str_radix(hex.get(i..i + 2)?, 16).ok()).collect()
@@ -57,7 +57,8 @@ fn bytes(hex: &str) -> Option<Vec<u8>> {
 /// The string of a display's replies, joined by a transfer.
 fn joined(replies: &[Vec<u8>]) -> Result<Vec<u8>, String> {
     let mut buffer = vec![0; 4096];
-    let mut transfer = Transfer::begin(TextKind::Capabilities, &mut buffer, replies.len() + 1).map_err(|r| r.to_string())?;
+    let mut transfer =
+        Transfer::begin(TextKind::Capabilities, &mut buffer, replies.len() + 1).map_err(|r| r.to_string())?;
     for (i, reply) in replies.iter().enumerate() {
         if let Err(refusal) = transfer.receive(reply) {
             println!("reply {}: {refusal}", i + 1);

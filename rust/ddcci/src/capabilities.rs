@@ -17,12 +17,7 @@ pub struct Nodes {
 
 impl Default for Nodes {
     fn default() -> Self {
-        Nodes {
-            starts: [0; MOST_NODES],
-            lengths: [0; MOST_NODES],
-            parents: [0; MOST_NODES],
-            groups: [0; MOST_NODES],
-        }
+        Nodes { starts: [0; MOST_NODES], lengths: [0; MOST_NODES], parents: [0; MOST_NODES], groups: [0; MOST_NODES] }
     }
 }
 

@@ -100,11 +100,9 @@ impl<'a> Request<'a> {
             0x0C => Request::Save,
             0xF3 => Request::Text { offset: r.word },
             0xE2 => Request::TableRead { code: r.code, offset: r.word },
-            _ => Request::TableWrite {
-                code: r.code,
-                offset: r.word,
-                data: &message[r.position..r.position + r.length],
-            },
+            _ => {
+                Request::TableWrite { code: r.code, offset: r.word, data: &message[r.position..r.position + r.length] }
+            }
         })
     }
 
@@ -119,9 +117,7 @@ impl<'a> Request<'a> {
                 Request::Timing => raw::ddcci_build_timing(o, n),
                 Request::Save => raw::ddcci_build_save(o, n),
                 Request::Text { offset } => raw::ddcci_build_text(offset, o, n),
-                Request::TableRead { code, offset } => {
-                    raw::ddcci_build_table_read(code, offset, o, n)
-                }
+                Request::TableRead { code, offset } => raw::ddcci_build_table_read(code, offset, o, n),
                 Request::TableWrite { code, offset, data } => {
                     raw::ddcci_build_table_write(code, offset, data.as_ptr(), data.len(), o, n)
                 }
@@ -169,13 +165,7 @@ impl<'a> Reply<'a> {
         Refusal::check(r.answer)?;
         let data = &message[r.position..r.position + r.length];
         Ok(match r.command {
-            0x02 => Reply::Value {
-                result: r.status,
-                code: r.code,
-                kind: r.kind,
-                max: r.first,
-                present: r.second,
-            },
+            0x02 => Reply::Value { result: r.status, code: r.code, kind: r.kind, max: r.first, present: r.second },
             0x4E => Reply::Timing { status: r.status, horizontal: r.first, vertical: r.second },
             0xE3 => Reply::TextFragment { offset: r.first, data },
             _ => Reply::TableFragment { offset: r.first, data },

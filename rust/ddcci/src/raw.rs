@@ -61,13 +61,7 @@ extern "C" {
         out: *mut u8,
         out_len: usize,
     ) -> Built;
-    pub fn ddcci_build_timing_reply(
-        status: u8,
-        horizontal: u16,
-        vertical: u16,
-        out: *mut u8,
-        out_len: usize,
-    ) -> Built;
+    pub fn ddcci_build_timing_reply(status: u8, horizontal: u16, vertical: u16, out: *mut u8, out_len: usize) -> Built;
     pub fn ddcci_build_text_fragment(
         offset: u16,
         data: *const u8,

@@ -78,13 +78,7 @@ impl<'a> Transfer<'a> {
     #[inline]
     pub fn receive(&mut self, reply: &[u8]) -> Result<(), Refusal> {
         self.numbers = unsafe {
-            raw::ddcci_receive(
-                self.numbers,
-                self.buffer.as_mut_ptr(),
-                self.buffer.len(),
-                reply.as_ptr(),
-                reply.len(),
-            )
+            raw::ddcci_receive(self.numbers, self.buffer.as_mut_ptr(), self.buffer.len(), reply.as_ptr(), reply.len())
         };
         Refusal::check(self.numbers.answer)
     }

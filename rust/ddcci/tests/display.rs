@@ -17,13 +17,17 @@ fn number<T>(r: Result<T, ddcci::Refusal>) -> u8 {
 fn started(r: &mut Random) -> (Display, slow::Display) {
     let size = 1 + r.below(32);
     let mut ours = Display::start(Timing { status: 2, horizontal: 13340, vertical: 6000 }, TEXT, size as u16).unwrap();
-    let (_, mut theirs) = slow::Display::start(slow::Timing { status: 2, horizontal: 13340, vertical: 6000 }, TEXT, size);
+    let (_, mut theirs) =
+        slow::Display::start(slow::Timing { status: 2, horizontal: 13340, vertical: 6000 }, TEXT, size);
     for _ in 0..60 {
         let (code, kind) = (0xE0 + r.below(32) as u8, r.below(3) as u8);
         let (readable, writable, continuous) = (r.below(4) > 0, r.below(4) > 0, r.below(2) > 0);
         let (maximum, present) = (r.below(200) as u16, r.below(200) as u16);
         let answer = number(ours.declare(Declaration { code, readable, writable, kind, continuous, maximum, present }));
-        assert_eq!(answer, theirs.declare(slow_settings::Declaration { code, readable, writable, kind, continuous, maximum, present }));
+        assert_eq!(
+            answer,
+            theirs.declare(slow_settings::Declaration { code, readable, writable, kind, continuous, maximum, present })
+        );
     }
     (ours, theirs)
 }

@@ -112,7 +112,8 @@ fn over_a_line(seed: u64, noise: usize, fates: usize) -> (String, Sent) {
         }
         to_display.write_all(&record(kind, &body)).unwrap();
         let (answer, reply) = read_record(&mut from_display).unwrap();
-        let came = if !reply.is_empty() && r.percent(noise) { spoil(&mut r, fates, &reply, &last) } else { reply.clone() };
+        let came =
+            if !reply.is_empty() && r.percent(noise) { spoil(&mut r, fates, &reply, &last) } else { reply.clone() };
         if !reply.is_empty() {
             last = reply;
         }

@@ -22,7 +22,13 @@ struct Built {
 extern "C" {
     fn ddcci_begin(kind: u8, buffer: *const u8, buffer_len: usize, budget: usize) -> Numbers;
     fn ddcci_request(transfer: Numbers, out: *mut u8, out_len: usize) -> Built;
-    fn ddcci_receive(transfer: Numbers, buffer: *mut u8, buffer_len: usize, reply: *const u8, reply_len: usize) -> Numbers;
+    fn ddcci_receive(
+        transfer: Numbers,
+        buffer: *mut u8,
+        buffer_len: usize,
+        reply: *const u8,
+        reply_len: usize,
+    ) -> Numbers;
 }
 
 const BUFFER: usize = 40;
@@ -40,7 +46,7 @@ fn end(offset: u16) -> [u8; 6] {
 
 /// What document 01 answers, and the phase and count afterwards, for a transfer of the table and the end at its own offset.
 fn expected(n: Numbers, text: u8) -> (u8, u8, u16) {
-    let open = n.phase % 4 == 0 && n.count < n.budget;
+    let open = n.phase.is_multiple_of(4) && n.count < n.budget;
     if n.phase >= 8 {
         return (UNKNOWN, n.phase, n.count);
     }
@@ -65,7 +71,8 @@ fn expected(n: Numbers, text: u8) -> (u8, u8, u16) {
 fn numbers_that_no_call_has_made() {
     for phase in 0..=255 {
         for offset in [0, 1, 32, 40, 41, 4095, 4096, 4097, 65535] {
-            for (budget, count) in [(0, 0), (1, 0), (1, 1), (2, 1), (5, 9), (65535, 65534), (65535, 65535), (0, 65535)] {
+            for (budget, count) in [(0, 0), (1, 0), (1, 1), (2, 1), (5, 9), (65535, 65534), (65535, 65535), (0, 65535)]
+            {
                 for size in [0, BUFFER, BUFFER + 1, usize::MAX] {
                     let n = Numbers { size, offset, budget, count, phase, answer: 77 };
                     judge(n);
@@ -84,7 +91,7 @@ fn judge(n: Numbers) {
     assert_eq!(buffer, [0xA5; BUFFER], "an empty fragment has no byte to store");
     let mut out = [0xA5; 38];
     let built = unsafe { ddcci_request(n, out.as_mut_ptr(), out.len()) };
-    if n.phase < 8 && n.phase % 4 == 0 && n.count < n.budget {
+    if n.phase < 8 && n.phase.is_multiple_of(4) && n.count < n.budget {
         assert_eq!(built, Built { answer: 0, length: if n.phase == 0 { 6 } else { 7 } });
     } else {
         let refusal = if n.phase < 8 { CLOSED } else { UNKNOWN };

@@ -7,8 +7,11 @@ use oracle::message as slow;
 
 const ROOM: usize = 64;
 
+/// Our output and answer, then the oracle's answer and output.
+type Built = ([u8; ROOM], Result<usize, Refusal>, Result<usize, u8>, [u8; ROOM]);
+
 /// A message of each kind with these bytes as its fields.
-fn request_of(kind: usize, r: &mut Random, data: &[u8]) -> ([u8; ROOM], Result<usize, Refusal>, Result<usize, u8>, [u8; ROOM]) {
+fn request_of(kind: usize, r: &mut Random, data: &[u8]) -> Built {
     let mut ours = [0xAA; ROOM];
     let mut theirs = [0xAA; ROOM];
     let (code, word) = (r.byte(), r.word());
@@ -30,7 +33,7 @@ fn request_of(kind: usize, r: &mut Random, data: &[u8]) -> ([u8; ROOM], Result<u
     (ours, a, b, theirs)
 }
 
-fn reply_of(kind: usize, r: &mut Random, data: &[u8]) -> ([u8; ROOM], Result<usize, Refusal>, Result<usize, u8>, [u8; ROOM]) {
+fn reply_of(kind: usize, r: &mut Random, data: &[u8]) -> Built {
     let mut ours = [0x55; ROOM];
     let mut theirs = [0x55; ROOM];
     let small = |r: &mut Random| if r.percent(80) { (r.byte()) & 1 } else { r.byte() };

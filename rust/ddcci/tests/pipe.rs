@@ -64,7 +64,9 @@ fn some_message(r: &mut Random) -> Vec<u8> {
         3 => slow::build_save(&mut out),
         4 => slow::build_capabilities([0, 32, 64, offset][r.below(4)], &mut out),
         5 => slow::build_table_read(code, [0, 7, 14, offset][r.below(4)], &mut out),
-        6 | 7 => slow::build_table_write(if r.percent(80) { 0xF4 } else { code }, offset, &data[..r.below(32)], &mut out),
+        6 | 7 => {
+            slow::build_table_write(if r.percent(80) { 0xF4 } else { code }, offset, &data[..r.below(32)], &mut out)
+        }
         _ => {
             r.fill(&mut out);
             Ok(r.below(38))

@@ -20,13 +20,27 @@ fn same_state(ours: &Transfer<'_>, theirs: &slow::Transfer) {
     );
 }
 
+/// The display's text, how many exchanges there are at most, and how often in a hundred the line spoils one.
+struct Conditions<'a> {
+    kind: TextKind,
+    text: &'a [u8],
+    most: usize,
+    noise: usize,
+}
+
 struct Run {
     exchanges: usize,
     corrupted: usize,
 }
 
 /// One list of exchanges; a fragment of the text at the very offset that is not the display's own reply is taken off the line, as demand 3 supposes.
-fn exchanges(r: &mut Random, kind: TextKind, text: &[u8], transfer: &mut Transfer<'_>, theirs: &mut slow::Transfer, buffer: &mut [u8], most: usize, noise: usize) -> Run {
+fn exchanges(
+    r: &mut Random,
+    Conditions { kind, text, most, noise }: Conditions<'_>,
+    transfer: &mut Transfer<'_>,
+    theirs: &mut slow::Transfer,
+    buffer: &mut [u8],
+) -> Run {
     let which = if kind == TextKind::Table { Text::Table } else { Text::Capabilities };
     let mut display = ConformingDisplay::new(which, text, r.bits() % 5000, r.bits() % 40);
     let mut line = NoisyLine::new(r.bits(), noise);
@@ -91,7 +105,8 @@ fn demand_3_over_noisy_lines() {
         let (answer, mut slow) = slow::Transfer::begin(which, theirs.len(), budget as u64);
         assert_eq!(answer, 0);
         let mut transfer = Transfer::begin(kind, &mut ours, budget).expect("a budget to 65,535 is accepted");
-        let run = exchanges(&mut r, kind, &text, &mut transfer, &mut slow, &mut theirs, most, noise);
+        let conditions = Conditions { kind, text: &text, most, noise };
+        let run = exchanges(&mut r, conditions, &mut transfer, &mut slow, &mut theirs);
 
         let reached = usize::from(transfer.offset());
         assert_eq!(transfer.text(), &text[..reached], "the bytes accepted are the text's first ones");

@@ -35,14 +35,7 @@ fn messages() {
         let _ = black_box(build_set(black_box(0x10), 100, black_box(&mut out)));
     });
     time("build value", many, || {
-        let _ = black_box(build_value(
-            0,
-            black_box(0x10),
-            0,
-            100,
-            50,
-            black_box(&mut out),
-        ));
+        let _ = black_box(build_value(0, black_box(0x10), 0, 100, 50, black_box(&mut out)));
     });
     time("build table write, 31 bytes", many, || {
         let data = black_box(&data[..31]);
@@ -60,9 +53,7 @@ fn messages() {
     time("read request, table write of 31", many, || {
         let _ = black_box(read_request(black_box(&out[..n])));
     });
-    let value = [
-        0x6E, 0x88, 0x02, 0x00, 0x10, 0x00, 0x00, 0x64, 0x00, 0x32, 0xF2,
-    ];
+    let value = [0x6E, 0x88, 0x02, 0x00, 0x10, 0x00, 0x00, 0x64, 0x00, 0x32, 0xF2];
     time("read reply, value", many, || {
         let _ = black_box(read_reply(black_box(&value)));
     });
@@ -92,13 +83,8 @@ fn capabilities_strings() {
         let bytes = text.len();
         let title = |what: &str| format!("{what}, {name}: {bytes} bytes, {nodes} nodes");
         time(&title("read"), 2000, || {
-            let _ = black_box(capabilities::read(
-                black_box(text),
-                &mut starts,
-                &mut lengths,
-                &mut parents,
-                &mut groups,
-            ));
+            let _ =
+                black_box(capabilities::read(black_box(text), &mut starts, &mut lengths, &mut parents, &mut groups));
         });
         time(&title("one pass"), 2000, || {
             let _ = black_box(capabilities::read_one_pass(
@@ -141,11 +127,7 @@ fn displays() {
         ("set", build_set(0x10, 7, &mut request), request),
         ("save", build_save(&mut request), request),
         ("text", build_capabilities(0, &mut request), request),
-        (
-            "table write of 31",
-            build_table_write(TABLE_CODE, 0, &[5; 31], &mut request),
-            request,
-        ),
+        ("table write of 31", build_table_write(TABLE_CODE, 0, &[5; 31], &mut request), request),
     ];
     for (name, built, message) in steps {
         let message = &message[..built.expect("built")];
@@ -155,12 +137,7 @@ fn displays() {
         let mut held = Some(display.clone());
         time(&format!("step by value, {name}"), many, || {
             if let Some(display) = held.take() {
-                let (display, ..) = black_box(display.step_by_value(
-                    &text,
-                    &mut table,
-                    black_box(message),
-                    &mut out,
-                ));
+                let (display, ..) = black_box(display.step_by_value(&text, &mut table, black_box(message), &mut out));
                 held = Some(display);
             }
         });
@@ -182,21 +159,16 @@ fn transfers() {
         let (_, mut display) = Display::start(Timing::default(), &text, size);
         let mut table = [0; TABLE_LIMIT];
         let mut buffer = vec![0; 4096];
-        time(
-            &format!("transfer of 4,096 bytes, fragments of {size}"),
-            20,
-            || {
-                let (_, mut transfer) = Transfer::begin(Text::Capabilities, 4096, 65_535);
-                let (mut request, mut reply) = ([0; 38], [0; 38]);
-                while transfer.state() == State::Open {
-                    let (_, n) = transfer.request(&mut request);
-                    let (_, n) =
-                        display.step(&text, &mut table, black_box(&request[..n]), &mut reply);
-                    transfer.receive(&mut buffer, black_box(&reply[..n]));
-                }
-                assert_eq!(transfer.state(), State::Done);
-            },
-        );
+        time(&format!("transfer of 4,096 bytes, fragments of {size}"), 20, || {
+            let (_, mut transfer) = Transfer::begin(Text::Capabilities, 4096, 65_535);
+            let (mut request, mut reply) = ([0; 38], [0; 38]);
+            while transfer.state() == State::Open {
+                let (_, n) = transfer.request(&mut request);
+                let (_, n) = display.step(&text, &mut table, black_box(&request[..n]), &mut reply);
+                transfer.receive(&mut buffer, black_box(&reply[..n]));
+            }
+            assert_eq!(transfer.state(), State::Done);
+        });
         assert_eq!(buffer, text);
     }
     let mut reply = [0; 38];

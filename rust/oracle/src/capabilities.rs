@@ -77,11 +77,7 @@ impl Nodes for Lent<'_> {
 /// One pass over the text. A byte is judged before anything after it, so the
 /// first place wins; at one place the grammar is judged first.
 #[inline(always)]
-fn scan<const DEPTH: usize>(
-    text: &[u8],
-    room: usize,
-    nodes: &mut impl Nodes,
-) -> Result<usize, (u8, usize)> {
+fn scan<const DEPTH: usize>(text: &[u8], room: usize, nodes: &mut impl Nodes) -> Result<usize, (u8, usize)> {
     if text.len() > TEXT_LIMIT {
         return Err((answer::TOO_LONG, 0));
     }
@@ -131,11 +127,7 @@ fn scan<const DEPTH: usize>(
             after_word = false;
             if depth == 0 {
                 // "One group and nothing else."
-                return if at == text.len() {
-                    Ok(count)
-                } else {
-                    Err((answer::GRAMMAR, at))
-                };
+                return if at == text.len() { Ok(count) } else { Err((answer::GRAMMAR, at)) };
             }
         } else {
             return Err((answer::GRAMMAR, at));
@@ -146,12 +138,7 @@ fn scan<const DEPTH: usize>(
 }
 
 fn room_of(starts: &[u16], lengths: &[u16], parents: &[u16], groups: &[u8]) -> usize {
-    starts
-        .len()
-        .min(lengths.len())
-        .min(parents.len())
-        .min(groups.len())
-        .min(NODE_LIMIT)
+    starts.len().min(lengths.len()).min(parents.len()).min(groups.len()).min(NODE_LIMIT)
 }
 
 #[inline]

@@ -23,12 +23,7 @@ fn is_word_byte(byte: u8) -> bool {
 }
 
 /// A group is "(", a list, ")". Gives the place after it, or the place where it cannot go on.
-fn group(
-    text: &[u8],
-    at: usize,
-    parent: Option<usize>,
-    nodes: &mut Vec<Node>,
-) -> Result<usize, usize> {
+fn group(text: &[u8], at: usize, parent: Option<usize>, nodes: &mut Vec<Node>) -> Result<usize, usize> {
     if text.get(at) != Some(&b'(') {
         return Err(at);
     }
@@ -40,12 +35,7 @@ fn group(
 }
 
 /// A list is words and spaces; each word may be followed, after any spaces, by one group.
-fn list(
-    text: &[u8],
-    mut at: usize,
-    parent: Option<usize>,
-    nodes: &mut Vec<Node>,
-) -> Result<usize, usize> {
+fn list(text: &[u8], mut at: usize, parent: Option<usize>, nodes: &mut Vec<Node>) -> Result<usize, usize> {
     loop {
         match text.get(at) {
             Some(b' ') => at += 1,
@@ -55,12 +45,7 @@ fn list(
                     at += 1;
                 }
                 let node = nodes.len();
-                nodes.push(Node {
-                    start,
-                    length: at - start,
-                    parent,
-                    group: false,
-                });
+                nodes.push(Node { start, length: at - start, parent, group: false });
                 let mut after_spaces = at;
                 while text.get(after_spaces) == Some(&b' ') {
                     after_spaces += 1;
@@ -141,19 +126,12 @@ fn depth_place(text: &[u8], depth: usize) -> Option<usize> {
 
 /// The place of 14: the first byte of the first word past the room.
 fn room_place(text: &[u8], room: usize) -> Option<usize> {
-    (0..text.len())
-        .filter(|&at| is_word_byte(text[at]) && (at == 0 || !is_word_byte(text[at - 1])))
-        .nth(room)
+    (0..text.len()).filter(|&at| is_word_byte(text[at]) && (at == 0 || !is_word_byte(text[at - 1]))).nth(room)
 }
 
 /// The whole judgement, given the place of 13: "the first place wins", and at
 /// one place 13 goes before 15 and 14.
-pub fn judge_with(
-    text: &[u8],
-    grammar: Option<usize>,
-    room: usize,
-    depth: usize,
-) -> Result<Vec<Node>, (u8, usize)> {
+pub fn judge_with(text: &[u8], grammar: Option<usize>, room: usize, depth: usize) -> Result<Vec<Node>, (u8, usize)> {
     if text.len() > TEXT_LIMIT {
         return Err((answer::TOO_LONG, 0));
     }
@@ -162,10 +140,8 @@ pub fn judge_with(
         (depth_place(text, depth), answer::DEPTH),
         (room_place(text, room), answer::NODE_ROOM),
     ];
-    let first = places
-        .iter()
-        .filter_map(|&(place, number)| place.map(|place| (place, number)))
-        .min_by_key(|&(place, _)| place);
+    let first =
+        places.iter().filter_map(|&(place, number)| place.map(|place| (place, number))).min_by_key(|&(place, _)| place);
     match first {
         Some((place, number)) => Err((number, place)),
         None => parse(text).map_err(|place| (answer::GRAMMAR, place)),

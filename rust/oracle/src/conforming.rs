@@ -16,12 +16,7 @@ pub struct ConformingDisplay<'a> {
 impl<'a> ConformingDisplay<'a> {
     /// A display that holds the text, with any two numbers. The text is at most 65,535 bytes.
     pub fn new(which: Text, text: &'a [u8], offset: u64, length: u64) -> Self {
-        Self {
-            which,
-            text,
-            offset,
-            length,
-        }
+        Self { which, text, offset, length }
     }
 
     /// The offset o and the length s.
@@ -34,17 +29,10 @@ impl<'a> ConformingDisplay<'a> {
     /// fragment may have and picks its length, from 1 up to that.
     ///
     /// Any other request is ignored: no reply, and both numbers stay.
-    pub fn act(
-        &mut self,
-        request: &[u8],
-        choose: &mut impl FnMut(usize) -> usize,
-        out: &mut [u8],
-    ) -> usize {
+    pub fn act(&mut self, request: &[u8], choose: &mut impl FnMut(usize) -> usize, out: &mut [u8]) -> usize {
         let asked = match (self.which, message::read_request(request)) {
             (Text::Capabilities, Ok(Request::Capabilities { offset })) => u64::from(offset),
-            (Text::Table, Ok(Request::TableRead { code, offset })) if code == TABLE_CODE => {
-                u64::from(offset)
-            }
+            (Text::Table, Ok(Request::TableRead { code, offset })) if code == TABLE_CODE => u64::from(offset),
             _ => return 0,
         };
         // "If q is 0, o becomes 0; else if q is o, it keeps both; else if q is
@@ -65,11 +53,7 @@ impl<'a> ConformingDisplay<'a> {
             let left = self.text.len().saturating_sub(offset as usize);
             let most = left.min(FRAGMENT_LIMIT);
             self.offset = offset;
-            self.length = if most == 0 {
-                0
-            } else {
-                choose(most).clamp(1, most) as u64
-            };
+            self.length = if most == 0 { 0 } else { choose(most).clamp(1, most) as u64 };
         }
         // "The reply is the piece message with o and the s bytes from o." Two
         // starting numbers that name no such bytes give no reply; a transfer

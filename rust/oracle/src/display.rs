@@ -65,11 +65,7 @@ struct Outcome {
 impl Outcome {
     #[inline]
     fn silent(answer: u8) -> Self {
-        Self {
-            answer,
-            reply_len: 0,
-            fragment: None,
-        }
+        Self { answer, reply_len: 0, fragment: None }
     }
 
     /// "Null message in the output, reply length 3."
@@ -82,11 +78,7 @@ impl Outcome {
     #[inline]
     fn built(answer: u8, reply: Result<usize, u8>) -> Self {
         match reply {
-            Ok(reply_len) => Self {
-                answer,
-                reply_len,
-                fragment: None,
-            },
+            Ok(reply_len) => Self { answer, reply_len, fragment: None },
             Err(refusal) => Self::silent(refusal),
         }
     }
@@ -172,26 +164,14 @@ impl Display {
     /// One message: the answer and the length of the reply in the output.
     /// Where no reply is due its length is 0 and no output byte changes.
     #[inline]
-    pub fn step(
-        &mut self,
-        text: &[u8],
-        table: &mut [u8],
-        message: &[u8],
-        out: &mut [u8],
-    ) -> (u8, usize) {
+    pub fn step(&mut self, text: &[u8], table: &mut [u8], message: &[u8], out: &mut [u8]) -> (u8, usize) {
         let outcome = self.turn(text, table, message, out);
         (outcome.answer, outcome.reply_len)
     }
 
     /// The same with the display given and handed back by value.
     #[inline]
-    pub fn step_by_value(
-        mut self,
-        text: &[u8],
-        table: &mut [u8],
-        message: &[u8],
-        out: &mut [u8],
-    ) -> (Self, u8, usize) {
+    pub fn step_by_value(mut self, text: &[u8], table: &mut [u8], message: &[u8], out: &mut [u8]) -> (Self, u8, usize) {
         let outcome = self.turn(text, table, message, out);
         (self, outcome.answer, outcome.reply_len)
     }
@@ -219,10 +199,7 @@ impl Display {
     fn turn(&mut self, text: &[u8], table: &mut [u8], message: &[u8], out: &mut [u8]) -> Outcome {
         // "A step is lent the list's buffer of exactly 1,024 bytes and the text
         // at its starting length (else 1)"; an output under 38 bytes is 1 too.
-        if out.len() < OUTPUT_LEN
-            || table.len() != TABLE_LIMIT
-            || text.len() != usize::from(self.text_len)
-        {
+        if out.len() < OUTPUT_LEN || table.len() != TABLE_LIMIT || text.len() != usize::from(self.text_len) {
             return Outcome::silent(answer::SIZE);
         }
         let request = match message::read_request(message) {
@@ -234,9 +211,7 @@ impl Display {
             // "Always answer 0 with a Value reply."
             Request::Get { code } => {
                 let reply = match self.settings.get(code) {
-                    Some((kind, maximum, present)) => {
-                        message::build_value(0, code, kind, maximum, present, out)
-                    }
+                    Some((kind, maximum, present)) => message::build_value(0, code, kind, maximum, present, out),
                     None => message::build_value(1, code, 0, 0, 0, out),
                 };
                 Outcome::built(answer::DONE, reply)
@@ -247,42 +222,24 @@ impl Display {
                 Outcome::silent(answer::DONE)
             }
             Request::Timing => {
-                let Timing {
-                    status,
-                    horizontal,
-                    vertical,
-                } = self.timing;
+                let Timing { status, horizontal, vertical } = self.timing;
                 let reply = message::build_timing_reply(status, horizontal, vertical, out);
                 Outcome::built(answer::DONE, reply)
             }
-            Request::TableWrite { code, offset, data } => {
-                Outcome::silent(self.write_table(table, code, offset, data))
-            }
+            Request::TableWrite { code, offset, data } => Outcome::silent(self.write_table(table, code, offset, data)),
             Request::Capabilities { offset } => {
-                self.text_cursor
-                    .turn(offset, self.fragment_size, self.text_len);
+                self.text_cursor.turn(offset, self.fragment_size, self.text_len);
                 let cursor = self.text_cursor;
-                let reply =
-                    message::build_capabilities_reply(cursor.offset, part(text, cursor), out);
-                Outcome {
-                    fragment: Some(Text::Capabilities),
-                    ..Outcome::built(answer::DONE, reply)
-                }
+                let reply = message::build_capabilities_reply(cursor.offset, part(text, cursor), out);
+                Outcome { fragment: Some(Text::Capabilities), ..Outcome::built(answer::DONE, reply) }
             }
             // "8: nothing; Table read: null message, length 3."
-            Request::TableRead { code, .. } if code != TABLE_CODE => {
-                Outcome::null(answer::CODE, out)
-            }
+            Request::TableRead { code, .. } if code != TABLE_CODE => Outcome::null(answer::CODE, out),
             Request::TableRead { offset, .. } => {
-                self.table_cursor
-                    .turn(offset, self.fragment_size, self.table_len);
+                self.table_cursor.turn(offset, self.fragment_size, self.table_len);
                 let cursor = self.table_cursor;
-                let reply =
-                    message::build_table_read_reply(cursor.offset, part(table, cursor), out);
-                Outcome {
-                    fragment: Some(Text::Table),
-                    ..Outcome::built(answer::DONE, reply)
-                }
+                let reply = message::build_table_read_reply(cursor.offset, part(table, cursor), out);
+                Outcome { fragment: Some(Text::Table), ..Outcome::built(answer::DONE, reply) }
             }
         }
     }
@@ -305,11 +262,7 @@ impl Display {
             return answer::TOO_LONG;
         }
         table[start..end].copy_from_slice(data);
-        self.table_len = if offset == 0 {
-            end as u16
-        } else {
-            self.table_len.max(end as u16)
-        };
+        self.table_len = if offset == 0 { end as u16 } else { self.table_len.max(end as u16) };
         self.table_cursor = Cursor::default();
         answer::DONE
     }

@@ -89,10 +89,7 @@ struct Carried {
 
 impl Carried {
     fn new(bytes: &[u8]) -> Self {
-        let mut carried = Self {
-            bytes: [0; CARRY_LIMIT],
-            length: bytes.len().min(CARRY_LIMIT),
-        };
+        let mut carried = Self { bytes: [0; CARRY_LIMIT], length: bytes.len().min(CARRY_LIMIT) };
         carried.bytes[..carried.length].copy_from_slice(&bytes[..carried.length]);
         carried
     }
@@ -110,12 +107,7 @@ pub struct NoisyLine {
 impl NoisyLine {
     /// A line that spoils about that many replies in a hundred.
     pub fn new(seed: u64, noise: usize) -> Self {
-        Self {
-            random: Random::new(seed),
-            noise,
-            earlier: [Carried::new(&[]); 2],
-            kept_back: Carried::new(&[]),
-        }
+        Self { random: Random::new(seed), noise, earlier: [Carried::new(&[]); 2], kept_back: Carried::new(&[]) }
     }
 
     /// Carries a reply, or an empty slice where the display sent none. Gives
@@ -124,14 +116,7 @@ impl NoisyLine {
         let random = &mut self.random;
         let mut sent = Carried::new(reply);
         let fate = if random.percent(self.noise) {
-            [
-                Fate::Lost,
-                Fate::Repeated,
-                Fate::Cut,
-                Fate::Flipped,
-                Fate::Swapped,
-                Fate::Noise,
-            ][random.below(6)]
+            [Fate::Lost, Fate::Repeated, Fate::Cut, Fate::Flipped, Fate::Swapped, Fate::Noise][random.below(6)]
         } else if random.percent(20) {
             Fate::Padded
         } else {

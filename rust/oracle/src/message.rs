@@ -129,9 +129,7 @@ pub enum Reply<'a> {
 #[inline]
 pub fn xor(bytes: &[u8]) -> u8 {
     let (words, tail) = bytes.as_chunks::<8>();
-    let mut wide = words
-        .iter()
-        .fold(0, |sum, word| sum ^ u64::from_ne_bytes(*word));
+    let mut wide = words.iter().fold(0, |sum, word| sum ^ u64::from_ne_bytes(*word));
     wide ^= wide >> 32;
     wide ^= wide >> 16;
     wide ^= wide >> 8;
@@ -161,28 +159,16 @@ pub fn read_request(bytes: &[u8]) -> Result<Request<'_>, u8> {
     }
     match *body {
         [GET, code] => Ok(Request::Get { code }),
-        [SET, code, high, low] => Ok(Request::Set {
-            code,
-            value: word(high, low),
-        }),
+        [SET, code, high, low] => Ok(Request::Set { code, value: word(high, low) }),
         [TIMING] => Ok(Request::Timing),
         [SAVE] => Ok(Request::Save),
-        [CAPABILITIES, high, low] => Ok(Request::Capabilities {
-            offset: word(high, low),
-        }),
-        [TABLE_READ, code, high, low] => Ok(Request::TableRead {
-            code,
-            offset: word(high, low),
-        }),
+        [CAPABILITIES, high, low] => Ok(Request::Capabilities { offset: word(high, low) }),
+        [TABLE_READ, code, high, low] => Ok(Request::TableRead { code, offset: word(high, low) }),
         // n is at most 35, so the data is at most 31.
-        [TABLE_WRITE, code, high, low, ref data @ ..] => Ok(Request::TableWrite {
-            code,
-            offset: word(high, low),
-            data,
-        }),
-        [GET | SET | TIMING | SAVE | CAPABILITIES | TABLE_READ | TABLE_WRITE, ..] => {
-            Err(answer::FIELD)
+        [TABLE_WRITE, code, high, low, ref data @ ..] => {
+            Ok(Request::TableWrite { code, offset: word(high, low), data })
         }
+        [GET | SET | TIMING | SAVE | CAPABILITIES | TABLE_READ | TABLE_WRITE, ..] => Err(answer::FIELD),
         // "Command not in the table, or n = 0 to the board."
         _ => Err(answer::COMMAND),
     }
@@ -217,29 +203,13 @@ pub fn read_reply(bytes: &[u8]) -> Result<Reply<'_>, u8> {
         [] => Err(answer::NULL),
         // "Result and type are 0 or 1."
         [VALUE, result @ 0..=1, code, kind @ 0..=1, max_high, max_low, high, low] => {
-            Ok(Reply::Value {
-                result,
-                code,
-                kind,
-                maximum: word(max_high, max_low),
-                present: word(high, low),
-            })
+            Ok(Reply::Value { result, code, kind, maximum: word(max_high, max_low), present: word(high, low) })
         }
         // n is at most 35, so the data of a fragment is at most 32.
-        [CAPABILITIES_REPLY, high, low, ref data @ ..] => Ok(Reply::Capabilities {
-            offset: word(high, low),
-            data,
-        }),
-        [TABLE_READ_REPLY, high, low, ref data @ ..] => Ok(Reply::Table {
-            offset: word(high, low),
-            data,
-        }),
+        [CAPABILITIES_REPLY, high, low, ref data @ ..] => Ok(Reply::Capabilities { offset: word(high, low), data }),
+        [TABLE_READ_REPLY, high, low, ref data @ ..] => Ok(Reply::Table { offset: word(high, low), data }),
         [TIMING_REPLY, status, h_high, h_low, v_high, v_low] if status & STATUS_RESERVED == 0 => {
-            Ok(Reply::Timing {
-                status,
-                horizontal: word(h_high, h_low),
-                vertical: word(v_high, v_low),
-            })
+            Ok(Reply::Timing { status, horizontal: word(h_high, h_low), vertical: word(v_high, v_low) })
         }
         [VALUE | CAPABILITIES_REPLY | TABLE_READ_REPLY | TIMING_REPLY, ..] => Err(answer::FIELD),
         _ => Err(answer::COMMAND),
@@ -254,51 +224,29 @@ fn room(out: &mut [u8]) -> Result<&mut [u8; OUTPUT_LEN], u8> {
 
 /// Writes a message of a fixed body.
 #[inline]
-fn put<const N: usize>(
-    out: &mut [u8; OUTPUT_LEN],
-    first: u8,
-    length: u8,
-    seed: u8,
-    body: [u8; N],
-) -> usize {
+fn put<const N: usize>(out: &mut [u8; OUTPUT_LEN], first: u8, length: u8, seed: u8, body: [u8; N]) -> usize {
     out[0] = first;
     out[1] = length;
     out[2..N + 2].copy_from_slice(&body);
-    out[N + 2] = body
-        .iter()
-        .fold(seed ^ first ^ length, |sum, byte| sum ^ byte);
+    out[N + 2] = body.iter().fold(seed ^ first ^ length, |sum, byte| sum ^ byte);
     N + 3
 }
 
 #[inline]
 fn put_request<const N: usize>(out: &mut [u8; OUTPUT_LEN], body: [u8; N]) -> usize {
-    put(
-        out,
-        REQUEST_FIRST,
-        LENGTH_FLAG | N as u8,
-        REQUEST_SEED,
-        body,
-    )
+    put(out, REQUEST_FIRST, LENGTH_FLAG | N as u8, REQUEST_SEED, body)
 }
 
 /// Writes a message whose body is a head and data. The caller has judged the data's length.
 #[inline]
-fn put_data<const N: usize>(
-    out: &mut [u8; OUTPUT_LEN],
-    first: u8,
-    seed: u8,
-    head: [u8; N],
-    data: &[u8],
-) -> usize {
+fn put_data<const N: usize>(out: &mut [u8; OUTPUT_LEN], first: u8, seed: u8, head: [u8; N], data: &[u8]) -> usize {
     let n = N + data.len();
     let length = LENGTH_FLAG | n as u8;
     out[0] = first;
     out[1] = length;
     out[2..N + 2].copy_from_slice(&head);
     out[N + 2..n + 2].copy_from_slice(data);
-    out[n + 2] = head
-        .iter()
-        .fold(seed ^ first ^ length ^ xor(data), |sum, byte| sum ^ byte);
+    out[n + 2] = head.iter().fold(seed ^ first ^ length ^ xor(data), |sum, byte| sum ^ byte);
     n + 3
 }
 
@@ -355,14 +303,7 @@ pub fn build_table_write(code: u8, offset: u16, data: &[u8], out: &mut [u8]) -> 
 
 /// Builds Value 02; 7 with a result or a type above 1.
 #[inline]
-pub fn build_value(
-    result: u8,
-    code: u8,
-    kind: u8,
-    maximum: u16,
-    present: u16,
-    out: &mut [u8],
-) -> Result<usize, u8> {
+pub fn build_value(result: u8, code: u8, kind: u8, maximum: u16, present: u16, out: &mut [u8]) -> Result<usize, u8> {
     let out = room(out)?;
     if result > 1 || kind > 1 {
         return Err(answer::FIELD);
@@ -393,23 +334,12 @@ fn build_fragment(command: u8, offset: u16, data: &[u8], out: &mut [u8]) -> Resu
         return Err(answer::FIELD);
     }
     let [high, low] = offset.to_be_bytes();
-    Ok(put_data(
-        out,
-        REPLY_FIRST,
-        REPLY_SEED,
-        [command, high, low],
-        data,
-    ))
+    Ok(put_data(out, REPLY_FIRST, REPLY_SEED, [command, high, low], data))
 }
 
 /// Builds Timing 4E; 7 with a reserved status bit set. Its length byte is plain n.
 #[inline]
-pub fn build_timing_reply(
-    status: u8,
-    horizontal: u16,
-    vertical: u16,
-    out: &mut [u8],
-) -> Result<usize, u8> {
+pub fn build_timing_reply(status: u8, horizontal: u16, vertical: u16, out: &mut [u8]) -> Result<usize, u8> {
     let out = room(out)?;
     if status & STATUS_RESERVED != 0 {
         return Err(answer::FIELD);
@@ -438,9 +368,7 @@ impl Request<'_> {
             Request::Save => build_save(out),
             Request::Capabilities { offset } => build_capabilities(offset, out),
             Request::TableRead { code, offset } => build_table_read(code, offset, out),
-            Request::TableWrite { code, offset, data } => {
-                build_table_write(code, offset, data, out)
-            }
+            Request::TableWrite { code, offset, data } => build_table_write(code, offset, data, out),
         }
     }
 }
@@ -450,19 +378,11 @@ impl Reply<'_> {
     #[inline]
     pub fn build(&self, out: &mut [u8]) -> Result<usize, u8> {
         match *self {
-            Reply::Value {
-                result,
-                code,
-                kind,
-                maximum,
-                present,
-            } => build_value(result, code, kind, maximum, present, out),
+            Reply::Value { result, code, kind, maximum, present } => {
+                build_value(result, code, kind, maximum, present, out)
+            }
             Reply::Capabilities { offset, data } => build_capabilities_reply(offset, data, out),
-            Reply::Timing {
-                status,
-                horizontal,
-                vertical,
-            } => build_timing_reply(status, horizontal, vertical, out),
+            Reply::Timing { status, horizontal, vertical } => build_timing_reply(status, horizontal, vertical, out),
             Reply::Table { offset, data } => build_table_read_reply(offset, data, out),
         }
     }

@@ -51,10 +51,7 @@ impl CodeSet {
     /// The codes, rising.
     #[inline]
     pub fn iter(&self) -> Codes {
-        Codes {
-            words: self.0,
-            index: 0,
-        }
+        Codes { words: self.0, index: 0 }
     }
 
     /// The four words, code 0 being the lowest bit of the first.
@@ -145,15 +142,7 @@ impl Settings {
     /// readable nor writable, momentary and not writable, or continuous with
     /// present above maximum. Saved starts equal to present."
     pub fn declare(&mut self, declaration: Declaration) -> u8 {
-        let Declaration {
-            code,
-            readable,
-            writable,
-            kind,
-            continuous,
-            maximum,
-            present,
-        } = declaration;
+        let Declaration { code, readable, writable, kind, continuous, maximum, present } = declaration;
         if code == TABLE_CODE
             || self.declared.contains(code)
             || kind > 1
@@ -222,13 +211,9 @@ impl Settings {
     #[inline]
     pub fn get(&self, code: u8) -> Option<(u8, u16, u16)> {
         let at = usize::from(code);
-        self.readable.contains(code).then(|| {
-            (
-                u8::from(self.momentary.contains(code)),
-                self.maximum[at],
-                self.present[at],
-            )
-        })
+        self.readable
+            .contains(code)
+            .then(|| (u8::from(self.momentary.contains(code)), self.maximum[at], self.present[at]))
     }
 
     /// "Set: 8 if undeclared, F4 or not writable; 9 if continuous and above the

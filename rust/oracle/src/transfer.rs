@@ -37,24 +37,13 @@ impl Transfer {
     /// closed at once."
     pub fn begin(which: Text, buffer_len: usize, budget: u64) -> (u8, Self) {
         if budget > BUDGET_LIMIT {
-            let refused = Self {
-                which,
-                state: State::Exhausted,
-                buffer_len: 0,
-                room: 0,
-                budget: 0,
-                count: 0,
-                offset: 0,
-            };
+            let refused =
+                Self { which, state: State::Exhausted, buffer_len: 0, room: 0, budget: 0, count: 0, offset: 0 };
             return (answer::NOT_ALLOWED, refused);
         }
         let begun = Self {
             which,
-            state: if budget == 0 {
-                State::Exhausted
-            } else {
-                State::Open
-            },
+            state: if budget == 0 { State::Exhausted } else { State::Open },
             buffer_len,
             // "Room: the lesser of its length and 4,096."
             room: buffer_len.min(TEXT_LIMIT) as u16,

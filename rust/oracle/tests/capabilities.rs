@@ -36,18 +36,11 @@ impl Buffers {
         }
         let rest = |entries: &[u16]| entries[nodes.len()..].iter().all(|&entry| entry == MARK);
         assert!(rest(&self.starts) && rest(&self.lengths) && rest(&self.parents));
-        assert!(self.groups[nodes.len()..]
-            .iter()
-            .all(|&entry| entry == 0x5A));
+        assert!(self.groups[nodes.len()..].iter().all(|&entry| entry == 0x5A));
     }
 }
 
-fn compare<const DEPTH: usize>(
-    text: &[u8],
-    room: usize,
-    shortest: usize,
-    expected: &Result<Vec<Node>, (u8, usize)>,
-) {
+fn compare<const DEPTH: usize>(text: &[u8], room: usize, shortest: usize, expected: &Result<Vec<Node>, (u8, usize)>) {
     let mut lent = Buffers::new(room, shortest);
     let found = capabilities::read_to_depth::<DEPTH>(
         text,
@@ -68,13 +61,8 @@ fn compare<const DEPTH: usize>(
     }
     if DEPTH == 8 {
         let mut lent = Buffers::new(room, shortest);
-        let one_pass = capabilities::read_one_pass(
-            text,
-            &mut lent.starts,
-            &mut lent.lengths,
-            &mut lent.parents,
-            &mut lent.groups,
-        );
+        let one_pass =
+            capabilities::read_one_pass(text, &mut lent.starts, &mut lent.lengths, &mut lent.parents, &mut lent.groups);
         assert_eq!(one_pass, found);
         if let Ok(nodes) = expected {
             lent.assert_nodes(nodes);
@@ -119,23 +107,10 @@ fn every_small_text() {
 
 #[test]
 fn the_plain_definition_on_its_own() {
-    for text in [
-        &b""[..],
-        b"()",
-        b"(a",
-        b"(a) ",
-        b"((05))",
-        b"(a(b)(c))",
-        b"(a(b)c)",
-        b")",
-        b"(a b(c d))",
-    ] {
+    for text in [&b""[..], b"()", b"(a", b"(a) ", b"((05))", b"(a(b)(c))", b"(a(b)c)", b")", b"(a b(c d))"] {
         for room in 0..4 {
             for depth in 1..4 {
-                assert_eq!(
-                    definition::read_small(text, room, depth),
-                    definition::read(text, room, depth)
-                );
+                assert_eq!(definition::read_small(text, room, depth), definition::read(text, room, depth));
             }
         }
     }
@@ -159,11 +134,7 @@ fn random_text(random: &mut Random) -> Vec<u8> {
                 let length = random.between(1, 4);
                 for _ in 0..length {
                     let byte = 0x21 + random.below(0x5E) as u8;
-                    text.push(if byte == b'(' || byte == b')' {
-                        b'w'
-                    } else {
-                        byte
-                    });
+                    text.push(if byte == b'(' || byte == b')' { b'w' } else { byte });
                 }
                 after_word = true;
             }

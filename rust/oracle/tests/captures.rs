@@ -7,9 +7,7 @@ use oracle::TABLE_LIMIT;
 
 /// The bytes of a line of hexadecimal numbers.
 fn bytes(line: &str) -> Vec<u8> {
-    line.split_whitespace()
-        .map(|byte| u8::from_str_radix(byte.trim_start_matches("0x"), 16).expect("a byte"))
-        .collect()
+    line.split_whitespace().map(|byte| u8::from_str_radix(byte.trim_start_matches("0x"), 16).expect("a byte")).collect()
 }
 
 /// Reading and building again gives the same bytes.
@@ -37,42 +35,12 @@ fn without_address(line: &[u8]) -> &[u8] {
 }
 
 const EXCHANGES: [(&str, &str, u16, u16); 6] = [
-    (
-        "0x37 0x51 0x82 0x01 0xd1 0x6d",
-        "0x37 0x6e 0x88 0x02 0x00 0xd1 0x00 0x00 0x02 0x00 0x00 0x67",
-        2,
-        0,
-    ),
-    (
-        "0x37 0x51 0x82 0x01 0x62 0xde",
-        "0x37 0x6e 0x88 0x02 0x00 0x62 0x00 0x00 0x32 0x00 0x00 0xe4",
-        0x32,
-        0,
-    ),
-    (
-        "0x37 0x51 0x82 0x01 0x8d 0x31",
-        "0x37 0x6e 0x88 0x02 0x00 0x8d 0x00 0x00 0x02 0x00 0x01 0x3a",
-        2,
-        1,
-    ),
-    (
-        "0x37 0x51 0x82 0x01 0xdc 0x60",
-        "0x37 0x6e 0x88 0x02 0x00 0xdc 0x00 0x00 0x32 0x00 0x12 0x48",
-        0x32,
-        0x12,
-    ),
-    (
-        "0x37 0x51 0x82 0x01 0xd9 0x65",
-        "0x37 0x6e 0x88 0x02 0x00 0xd9 0x00 0x07 0x0a 0x03 0x08 0x6b",
-        0x070A,
-        0x0308,
-    ),
-    (
-        "0x37 0x51 0x82 0x01 0xd7 0x6b",
-        "0x37 0x6e 0x88 0x02 0x00 0xd7 0x00 0x02 0x31 0x02 0x10 0x42",
-        0x0231,
-        0x0210,
-    ),
+    ("0x37 0x51 0x82 0x01 0xd1 0x6d", "0x37 0x6e 0x88 0x02 0x00 0xd1 0x00 0x00 0x02 0x00 0x00 0x67", 2, 0),
+    ("0x37 0x51 0x82 0x01 0x62 0xde", "0x37 0x6e 0x88 0x02 0x00 0x62 0x00 0x00 0x32 0x00 0x00 0xe4", 0x32, 0),
+    ("0x37 0x51 0x82 0x01 0x8d 0x31", "0x37 0x6e 0x88 0x02 0x00 0x8d 0x00 0x00 0x02 0x00 0x01 0x3a", 2, 1),
+    ("0x37 0x51 0x82 0x01 0xdc 0x60", "0x37 0x6e 0x88 0x02 0x00 0xdc 0x00 0x00 0x32 0x00 0x12 0x48", 0x32, 0x12),
+    ("0x37 0x51 0x82 0x01 0xd9 0x65", "0x37 0x6e 0x88 0x02 0x00 0xd9 0x00 0x07 0x0a 0x03 0x08 0x6b", 0x070A, 0x0308),
+    ("0x37 0x51 0x82 0x01 0xd7 0x6b", "0x37 0x6e 0x88 0x02 0x00 0xd7 0x00 0x02 0x31 0x02 0x10 0x42", 0x0231, 0x0210),
 ];
 
 #[test]
@@ -84,53 +52,30 @@ fn source_001_exchanges() {
             panic!("not a Get");
         };
         let read = bytes(read);
-        let value = Reply::Value {
-            result: 0,
-            code,
-            kind: 0,
-            maximum,
-            present,
-        };
+        let value = Reply::Value { result: 0, code, kind: 0, maximum, present };
         assert_eq!(reply(without_address(&read)), value);
         // A display with these values answers with these bytes.
         let (_, mut display) = Display::start(Timing::default(), b"", 32);
-        let declaration = Declaration {
-            code,
-            readable: true,
-            writable: true,
-            kind: 0,
-            continuous: false,
-            maximum,
-            present,
-        };
+        let declaration =
+            Declaration { code, readable: true, writable: true, kind: 0, continuous: false, maximum, present };
         assert_eq!(display.declare(declaration), 0);
         let mut out = [0; 38];
         let (answer, length) = display.step(b"", &mut [0; TABLE_LIMIT], &written[1..], &mut out);
         assert_eq!((answer, &out[..length]), (0, &read[1..]));
     }
     let sample = bytes("0x6e 0x88 0x02 0x00 0x18 0x00 0x00 0x64 0x00 0x64 0xac");
-    let value = Reply::Value {
-        result: 0,
-        code: 0x18,
-        kind: 0,
-        maximum: 100,
-        present: 100,
-    };
+    let value = Reply::Value { result: 0, code: 0x18, kind: 0, maximum: 100, present: 100 };
     assert_eq!(reply(&sample), value);
 }
 
 #[test]
 fn source_001_sets() {
-    for (line, value) in [
-        ("0x37 0x51 0x84 0x03 0xd7 0x02 0x20 0x4d", 0x0220),
-        ("0x37 0x51 0x84 0x03 0xd7 0x02 0x10 0x7d", 0x0210),
-    ] {
+    for (line, value) in
+        [("0x37 0x51 0x84 0x03 0xd7 0x02 0x20 0x4d", 0x0220), ("0x37 0x51 0x84 0x03 0xd7 0x02 0x10 0x7d", 0x0210)]
+    {
         let line = bytes(line);
         assert_eq!(line.iter().fold(0, |sum, byte| sum ^ byte), 0x59);
-        assert_eq!(
-            request(without_address(&line)),
-            Request::Set { code: 0xD7, value }
-        );
+        assert_eq!(request(without_address(&line)), Request::Set { code: 0xD7, value });
     }
 }
 
@@ -169,49 +114,22 @@ fn source_001_gets() {
 
 #[test]
 fn source_003() {
-    assert_eq!(
-        request(&bytes("51 82 01 10 AC")),
-        Request::Get { code: 0x10 }
-    );
-    assert_eq!(
-        request(&bytes("51 84 03 10 00 64 CC")),
-        Request::Set {
-            code: 0x10,
-            value: 100
-        }
-    );
+    assert_eq!(request(&bytes("51 82 01 10 AC")), Request::Get { code: 0x10 });
+    assert_eq!(request(&bytes("51 84 03 10 00 64 CC")), Request::Set { code: 0x10, value: 100 });
     assert_eq!(request(&bytes("51 81 07 B9")), Request::Timing);
     assert_eq!(request(&bytes("51 81 0C B2")), Request::Save);
     assert_eq!(
         reply(&bytes("6E 88 02 00 10 00 00 64 00 32 F2")),
-        Reply::Value {
-            result: 0,
-            code: 0x10,
-            kind: 0,
-            maximum: 100,
-            present: 50
-        }
+        Reply::Value { result: 0, code: 0x10, kind: 0, maximum: 100, present: 50 }
     );
     let timing = bytes("6E 06 4E 02 34 1C 17 70 3B");
-    assert_eq!(
-        reply(&timing),
-        Reply::Timing {
-            status: 2,
-            horizontal: 13340,
-            vertical: 6000
-        }
-    );
+    assert_eq!(reply(&timing), Reply::Timing { status: 2, horizontal: 13340, vertical: 6000 });
     // A display with that timing answers with these bytes.
-    let timing_of_source = Timing {
-        status: 2,
-        horizontal: 13340,
-        vertical: 6000,
-    };
+    let timing_of_source = Timing { status: 2, horizontal: 13340, vertical: 6000 };
     let (answer, mut display) = Display::start(timing_of_source, b"", 1);
     assert_eq!(answer, 0);
     let mut out = [0; 38];
-    let (answer, length) =
-        display.step(b"", &mut [0; TABLE_LIMIT], &bytes("51 81 07 B9"), &mut out);
+    let (answer, length) = display.step(b"", &mut [0; TABLE_LIMIT], &bytes("51 81 07 B9"), &mut out);
     assert_eq!((answer, &out[..length]), (0, &timing[..]));
 }
 
@@ -228,12 +146,7 @@ fn source_004() {
     // The display answers an unknown command with the null message.
     let (_, mut display) = Display::start(Timing::default(), b"", 1);
     let mut out = [0xA5; 40];
-    let step = display.step(
-        b"",
-        &mut [0; TABLE_LIMIT],
-        &bytes("51 82 F5 01 49"),
-        &mut out,
-    );
+    let step = display.step(b"", &mut [0; TABLE_LIMIT], &bytes("51 82 F5 01 49"), &mut out);
     assert_eq!(step, (6, 3));
     assert_eq!(out[..3], NULL_MESSAGE);
     assert!(out[3..].iter().all(|&byte| byte == 0xA5));

@@ -137,9 +137,11 @@ impl Site {
                 spoiled[fate as usize] += 1;
             }
             if count <= shown {
-                let name = ["good", "request lost", "reply lost", "reply cut", "bit flipped", "last reply again"][fate as usize];
+                let name = ["good", "request lost", "reply lost", "reply cut", "bit flipped", "last reply again"]
+                    [fate as usize];
                 let joined = transfer.offset() - before;
-                writeln!(said, "{count:7}{before:8}   {name:<18}{:2}{joined:9}   {}", came.len(), meaning(answer)).unwrap();
+                writeln!(said, "{count:7}{before:8}   {name:<18}{:2}{joined:9}   {}", came.len(), meaning(answer))
+                    .unwrap();
             }
         }
         assert_eq!((transfer.state(), spoiled[0]), (State::Done, 0), "done, and a good exchange is never refused");
@@ -152,12 +154,14 @@ impl Site {
         )
         .unwrap();
         assert_eq!(&buffer[..transfer.offset()], wanted);
-        writeln!(said, "    {} bytes read; beside what was written: the same, byte for byte", transfer.offset()).unwrap();
+        writeln!(said, "    {} bytes read; beside what was written: the same, byte for byte", transfer.offset())
+            .unwrap();
     }
 }
 
 fn start(said: &mut String, number: usize, size: usize, seed: u64) -> Site {
-    let (answer, mut display) = Display::start(Timing { status: 2, horizontal: 13340, vertical: 6000 }, CAPABILITIES, size);
+    let (answer, mut display) =
+        Display::start(Timing { status: 2, horizontal: 13340, vertical: 6000 }, CAPABILITIES, size);
     writeln!(said, "  display {number}, which sends fragments of {size} bytes: {}", meaning(answer)).unwrap();
     let mut declare = |code, kind, continuous, maximum, present| {
         display.declare(Declaration { code, readable: kind == 0, writable: true, kind, continuous, maximum, present })
@@ -227,7 +231,8 @@ fn dusk(said: &mut String, first: bool, site: &mut Site) {
     writeln!(said, "    the profile is loaded: {}", meaning(0)).unwrap();
     site.get(said, "brightness", 0x10);
     let cleared = site.write(0, &[]);
-    writeln!(said, "    the list is cleared, {} bytes are left: {}", site.display.table_len(), meaning(cleared)).unwrap();
+    writeln!(said, "    the list is cleared, {} bytes are left: {}", site.display.table_len(), meaning(cleared))
+        .unwrap();
 }
 
 fn day() -> String {

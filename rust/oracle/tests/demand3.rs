@@ -81,12 +81,7 @@ fn run(setup: &Setup) -> Outcome {
 
     let mut accepted = 0;
     let mut counted = 0;
-    let mut outcome = Outcome {
-        transfer,
-        spoiled: 0,
-        fates: [0; 8],
-        answers: [0; 19],
-    };
+    let mut outcome = Outcome { transfer, spoiled: 0, fates: [0; 8], answers: [0; 19] };
     for exchange in 0..setup.exchanges {
         let open = transfer.state() == State::Open;
         let may_spoil = outcome.spoiled < setup.spoils;
@@ -94,11 +89,7 @@ fn run(setup: &Setup) -> Outcome {
         // Asking; sometimes with an output too short, which sends no request.
         let refuse = may_spoil && random.percent(setup.noise / 8);
         let mut request = [0xA5; 40];
-        let out_len = if refuse {
-            random.below(38)
-        } else {
-            random.between(38, 40)
-        };
+        let out_len = if refuse { random.below(38) } else { random.between(38, 40) };
         let before = transfer;
         let (asked, request_len) = transfer.request(&mut request[..out_len]);
         assert_eq!(transfer, before);
@@ -115,10 +106,7 @@ fn run(setup: &Setup) -> Outcome {
             let offset = accepted as u16;
             let wanted = match setup.which {
                 Text::Capabilities => Request::Capabilities { offset },
-                Text::Table => Request::TableRead {
-                    code: TABLE_CODE,
-                    offset,
-                },
+                Text::Table => Request::TableRead { code: TABLE_CODE, offset },
             };
             assert_eq!(read_request(&request[..request_len]), Ok(wanted));
         } else {
@@ -211,11 +199,7 @@ fn random_setup(random: &mut Random, index: u64) -> Setup {
         _ => 20,
     };
     let length = random.between(0, longest);
-    let length = if longest == 4096 && random.percent(30) {
-        4096
-    } else {
-        length
-    };
+    let length = if longest == 4096 && random.percent(30) { 4096 } else { length };
     let buffer_len = match random.below(4) {
         0 | 1 => length,
         2 => length + random.below(50),
@@ -397,20 +381,12 @@ fn old_pieces_keep_the_bytes_right() {
             let (_, n) = transfer.request(&mut request);
             let mut reply = [0; 38];
             let length = if random.percent(70) {
-                display.act(
-                    &request[..n],
-                    &mut |most| random.between(1, most),
-                    &mut reply,
-                )
+                display.act(&request[..n], &mut |most| random.between(1, most), &mut reply)
             } else {
                 0
             };
             past.push(reply[..length].to_vec());
-            let offered = if random.percent(50) {
-                &past[random.below(past.len())]
-            } else {
-                &past[past.len() - 1]
-            };
+            let offered = if random.percent(50) { &past[random.below(past.len())] } else { &past[past.len() - 1] };
             transfer.receive(&mut buffer, offered);
             let accepted = transfer.offset();
             assert_eq!(buffer[..accepted], text[..accepted]);

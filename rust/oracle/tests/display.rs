@@ -45,15 +45,7 @@ fn with_checksum(mut bytes: Vec<u8>) -> Vec<u8> {
 
 impl Model {
     fn declare(&mut self, declaration: Declaration) -> u8 {
-        let Declaration {
-            code,
-            readable,
-            writable,
-            kind,
-            continuous,
-            maximum,
-            present,
-        } = declaration;
+        let Declaration { code, readable, writable, kind, continuous, maximum, present } = declaration;
         let refused = code == 0xF4
             || self.settings.contains_key(&code)
             || kind > 1
@@ -63,11 +55,7 @@ impl Model {
         if refused {
             return 18;
         }
-        let setting = Setting {
-            declaration,
-            present,
-            saved: present,
-        };
+        let setting = Setting { declaration, present, saved: present };
         self.settings.insert(code, setting);
         0
     }
@@ -87,33 +75,17 @@ impl Model {
         } else {
             0
         };
-        let piece: Vec<u8> = text[new..]
-            .iter()
-            .copied()
-            .take(self.fragment_size)
-            .collect();
+        let piece: Vec<u8> = text[new..].iter().copied().take(self.fragment_size).collect();
         *place = (new, piece.len());
         let mut reply = vec![0x6E, 0x83 + piece.len() as u8, command];
         reply.extend((new as u16).to_be_bytes());
         reply.extend(&piece);
-        Expected {
-            answer: 0,
-            reply: with_checksum(reply),
-            fragment: piece,
-        }
+        Expected { answer: 0, reply: with_checksum(reply), fragment: piece }
     }
 
     fn step(&mut self, message: &[u8]) -> Expected {
-        let plain = |answer| Expected {
-            answer,
-            reply: Vec::new(),
-            fragment: Vec::new(),
-        };
-        let replied = |answer, reply| Expected {
-            answer,
-            reply,
-            fragment: Vec::new(),
-        };
+        let plain = |answer| Expected { answer, reply: Vec::new(), fragment: Vec::new() };
+        let replied = |answer, reply| Expected { answer, reply, fragment: Vec::new() };
         let null = vec![0x6E, 0x80, 0xBE];
         let request = match read_request(message) {
             Ok(request) => request,
@@ -157,9 +129,7 @@ impl Model {
                 }
                 plain(0)
             }
-            Request::Capabilities { offset } => {
-                self.fragment(Text::Capabilities, usize::from(offset))
-            }
+            Request::Capabilities { offset } => self.fragment(Text::Capabilities, usize::from(offset)),
             Request::TableRead { code, offset } => {
                 if code != 0xF4 {
                     return replied(8, null);
@@ -177,11 +147,7 @@ impl Model {
                 if offset + data.len() > 1024 {
                     return plain(11);
                 }
-                let tail = self
-                    .table
-                    .get(offset + data.len()..)
-                    .unwrap_or(&[])
-                    .to_vec();
+                let tail = self.table.get(offset + data.len()..).unwrap_or(&[]).to_vec();
                 self.table.truncate(offset);
                 self.table.extend(data);
                 if offset > 0 {
@@ -281,29 +247,17 @@ fn random_message(random: &mut Random, model: &Model, out: &mut [u8; 64]) -> usi
 fn assert_same(display: &Display, model: &Model, table: &[u8]) {
     assert_eq!(display.table_len(), model.table.len());
     assert_eq!(table[..model.table.len()], model.table[..]);
-    for (which, place) in [
-        (Text::Capabilities, model.text_place),
-        (Text::Table, model.table_place),
-    ] {
+    for (which, place) in [(Text::Capabilities, model.text_place), (Text::Table, model.table_place)] {
         let cursor = display.cursor(which);
-        assert_eq!(
-            (usize::from(cursor.offset), usize::from(cursor.length)),
-            place
-        );
+        assert_eq!((usize::from(cursor.offset), usize::from(cursor.length)), place);
     }
     for code in 0..=255 {
         let setting = model.settings.get(&code);
         assert_eq!(
             display.settings.declaration(code),
-            setting.map(|setting| Declaration {
-                present: setting.present,
-                ..setting.declaration
-            })
+            setting.map(|setting| Declaration { present: setting.present, ..setting.declaration })
         );
-        assert_eq!(
-            display.settings.saved(code),
-            setting.map_or(0, |setting| setting.saved)
-        );
+        assert_eq!(display.settings.saved(code), setting.map_or(0, |setting| setting.saved));
     }
 }
 
@@ -315,11 +269,7 @@ fn steps_as_the_model() {
         let mut text = vec![0; [0, 1, 5, 40, 100, 4096][random.below(6)]];
         random.fill(&mut text);
         let fragment_size = random.between(1, 32);
-        let timing = Timing {
-            status: random.byte() & 0xC3,
-            horizontal: random.word(),
-            vertical: random.word(),
-        };
+        let timing = Timing { status: random.byte() & 0xC3, horizontal: random.word(), vertical: random.word() };
         let (answer, mut display) = Display::start(timing, &text, fragment_size);
         assert_eq!(answer, 0);
         let mut model = Model {
@@ -340,9 +290,7 @@ fn steps_as_the_model() {
         }
         assert_eq!(display.number_declared(), model.settings.len());
         for from in 0..=300 {
-            let next = (from..256)
-                .map(|code| code as u8)
-                .find(|code| model.settings.contains_key(code));
+            let next = (from..256).map(|code| code as u8).find(|code| model.settings.contains_key(code));
             assert_eq!(display.next_declared(from), next);
         }
         let mut table = [0; TABLE_LIMIT];
@@ -356,10 +304,7 @@ fn steps_as_the_model() {
 
             let mut other_table = table;
             let mut other_out = out;
-            let by_value =
-                display
-                    .clone()
-                    .step_by_value(&text, &mut other_table, message, &mut other_out);
+            let by_value = display.clone().step_by_value(&text, &mut other_table, message, &mut other_out);
             let mut handing = display.clone();
             let mut handing_table = table;
             let handed = handing.step_fragment(&text, &mut handing_table, message, &mut [0xA5; 38]);
@@ -422,10 +367,7 @@ fn steps_as_the_model() {
 
 #[test]
 fn starts() {
-    let bad_timing = Timing {
-        status: 0x04,
-        ..Timing::default()
-    };
+    let bad_timing = Timing { status: 0x04, ..Timing::default() };
     let long = [0; 4097];
     for (timing, text, size, expected) in [
         (bad_timing, &long[..], 0, 18),
@@ -439,30 +381,17 @@ fn starts() {
         assert_eq!((answer, &display), (expected, &Display::empty()));
     }
     let (answer, display) = Display::start(Timing::default(), &long[..4096], 32);
-    assert_eq!(
-        (answer, display.text_len(), display.fragment_size()),
-        (0, 4096, 32)
-    );
+    assert_eq!((answer, display.text_len(), display.fragment_size()), (0, 4096, 32));
     for bit in 0..8 {
-        let timing = Timing {
-            status: 1 << bit,
-            ..Timing::default()
-        };
+        let timing = Timing { status: 1 << bit, ..Timing::default() };
         let reserved = (2..=5).contains(&bit);
         let expected = if reserved { 18 } else { 0 };
         assert_eq!(Display::start(timing, b"", 1).0, expected);
     }
     // Declaring is allowed on the empty display of a refused start.
     let mut empty = Display::empty();
-    let declaration = Declaration {
-        code: 0x10,
-        readable: true,
-        writable: false,
-        kind: 0,
-        continuous: false,
-        maximum: 0,
-        present: 9,
-    };
+    let declaration =
+        Declaration { code: 0x10, readable: true, writable: false, kind: 0, continuous: false, maximum: 0, present: 9 };
     assert_eq!(empty.declare(declaration), 0);
     assert_eq!(empty.declare(declaration), 18);
     assert_eq!(empty.number_declared(), 1);
@@ -506,18 +435,13 @@ fn conforms_to_the_fragment_rules() {
         random.fill(&mut text);
         let size = random.between(1, 32);
         let which = [Text::Capabilities, Text::Table][random.below(2)];
-        let capabilities: &[u8] = if which == Text::Capabilities {
-            &text
-        } else {
-            b""
-        };
+        let capabilities: &[u8] = if which == Text::Capabilities { &text } else { b"" };
         let (_, mut display) = Display::start(Timing::default(), capabilities, size);
         let mut table = [0; TABLE_LIMIT];
         let (mut message, mut out) = ([0; 38], [0; 38]);
         if which == Text::Table {
             for (index, data) in text.chunks(31).enumerate() {
-                let n = build_table_write(TABLE_CODE, index as u16 * 31, data, &mut message)
-                    .expect("built");
+                let n = build_table_write(TABLE_CODE, index as u16 * 31, data, &mut message).expect("built");
                 let step = display.step(capabilities, &mut table, &message[..n], &mut out);
                 assert_eq!(step, (0, 0));
             }

@@ -39,50 +39,23 @@ fn reply(bytes: &[u8], message: Reply) {
 #[test]
 fn requests() {
     request(&[0x51, 0x82, 0x01, 0x10, 0xAC], Request::Get { code: 0x10 });
-    request(
-        &[0x51, 0x84, 0x03, 0x10, 0x00, 0x64, 0xCC],
-        Request::Set {
-            code: 0x10,
-            value: 100,
-        },
-    );
+    request(&[0x51, 0x84, 0x03, 0x10, 0x00, 0x64, 0xCC], Request::Set { code: 0x10, value: 100 });
     request(&[0x51, 0x81, 0x07, 0xB9], Request::Timing);
     request(&[0x51, 0x81, 0x0C, 0xB2], Request::Save);
-    request(
-        &[0x51, 0x83, 0xF3, 0x00, 0x00, 0x4F],
-        Request::Capabilities { offset: 0 },
-    );
+    request(&[0x51, 0x83, 0xF3, 0x00, 0x00, 0x4F], Request::Capabilities { offset: 0 });
 }
 
 #[test]
 fn replies() {
     reply(
-        &[
-            0x6E, 0x88, 0x02, 0x00, 0x10, 0x00, 0x00, 0x64, 0x00, 0x32, 0xF2,
-        ],
-        Reply::Value {
-            result: 0,
-            code: 0x10,
-            kind: 0,
-            maximum: 100,
-            present: 50,
-        },
+        &[0x6E, 0x88, 0x02, 0x00, 0x10, 0x00, 0x00, 0x64, 0x00, 0x32, 0xF2],
+        Reply::Value { result: 0, code: 0x10, kind: 0, maximum: 100, present: 50 },
     );
     reply(
         &[0x6E, 0x06, 0x4E, 0x02, 0x34, 0x1C, 0x17, 0x70, 0x3B],
-        Reply::Timing {
-            status: 2,
-            horizontal: 13340,
-            vertical: 6000,
-        },
+        Reply::Timing { status: 2, horizontal: 13340, vertical: 6000 },
     );
-    reply(
-        &[0x6E, 0x83, 0xE3, 0x00, 0x00, 0x5E],
-        Reply::Capabilities {
-            offset: 0,
-            data: &[],
-        },
-    );
+    reply(&[0x6E, 0x83, 0xE3, 0x00, 0x00, 0x5E], Reply::Capabilities { offset: 0, data: &[] });
     assert_eq!(read_reply(&[0x6E, 0x80, 0xBE]), Err(12));
     assert_eq!(read_reply(&[0x6E, 0x80, 0xBE, 1, 2]), Err(12));
     built(&[0x6E, 0x80, 0xBE], build_null);
@@ -134,22 +107,14 @@ fn tree(text: &[u8]) -> Result<Nodes, (u8, usize)> {
     let mut groups = [7; 16];
     let count = capabilities::read(text, &mut starts, &mut lengths, &mut parents, &mut groups)?;
     assert!(starts[count..].iter().all(|&entry| entry == 7));
-    Ok((0..count)
-        .map(|node| (starts[node], lengths[node], parents[node], groups[node]))
-        .collect())
+    Ok((0..count).map(|node| (starts[node], lengths[node], parents[node], groups[node])).collect())
 }
 
 #[test]
 fn capabilities_strings() {
     assert_eq!(
         tree(b"(vcp(10 14(05 08)))"),
-        Ok(vec![
-            (1, 3, 65_535, 1),
-            (5, 2, 0, 0),
-            (8, 2, 0, 1),
-            (11, 2, 2, 0),
-            (14, 2, 2, 0)
-        ])
+        Ok(vec![(1, 3, 65_535, 1), (5, 2, 0, 0), (8, 2, 0, 1), (11, 2, 2, 0), (14, 2, 2, 0)])
     );
     assert_eq!(tree(b"()"), Ok(vec![]));
     assert_eq!(tree(b"(a(b)(c))"), Err((13, 5)));
@@ -159,22 +124,11 @@ fn capabilities_strings() {
     // Decided readings.
     assert_eq!(tree(b""), Err((13, 0)));
     assert_eq!(tree(b"(a(b) (c))"), Err((13, 6)));
-    assert_eq!(
-        tree(b"(a(b)c)"),
-        Ok(vec![(1, 1, 65_535, 1), (3, 1, 0, 0), (5, 1, 65_535, 0)])
-    );
+    assert_eq!(tree(b"(a(b)c)"), Ok(vec![(1, 1, 65_535, 1), (3, 1, 0, 0), (5, 1, 65_535, 0)]));
     assert_eq!(tree(b"(a  (b))"), Ok(vec![(1, 1, 65_535, 1), (5, 1, 0, 0)]));
     let empty = || (Vec::<u16>::new(), Vec::<u8>::new());
     let (mut none, mut no_groups) = empty();
-    let mut read = |text: &[u8]| {
-        capabilities::read(
-            text,
-            &mut none,
-            &mut [0u16; 4],
-            &mut [0u16; 4],
-            &mut no_groups,
-        )
-    };
+    let mut read = |text: &[u8]| capabilities::read(text, &mut none, &mut [0u16; 4], &mut [0u16; 4], &mut no_groups);
     assert_eq!(read(b"()"), Ok(0));
     assert_eq!(read(b"(  )"), Ok(0));
     assert_eq!(read(b"( a)"), Err((14, 2)));
@@ -227,9 +181,7 @@ fn text_length_and_node_room() {
     let mut lengths = [0; 600];
     let mut parents = [0; 600];
     let mut groups = [9; 600];
-    let mut read = |text: &[u8]| {
-        capabilities::read(text, &mut starts, &mut lengths, &mut parents, &mut groups)
-    };
+    let mut read = |text: &[u8]| capabilities::read(text, &mut starts, &mut lengths, &mut parents, &mut groups);
     assert_eq!(read(&words(512)), Ok(512));
     assert_eq!(read(&words(513)), Err((14, 1 + 512 * 2)));
     assert_eq!(groups[511], 0);
@@ -284,18 +236,14 @@ fn table_of_1024_and_1025_bytes() {
     let list: Vec<u8> = (0..1025u32).map(|byte| byte as u8).collect();
     for start in (0..1023).step_by(31) {
         let end = (start + 31).min(1023);
-        let length = build_table_write(TABLE_CODE, start as u16, &list[start..end], &mut message)
-            .expect("built");
+        let length = build_table_write(TABLE_CODE, start as u16, &list[start..end], &mut message).expect("built");
         let step = display.step(b"", &mut table, &message[..length], &mut out);
         assert_eq!(step, (0, 0));
     }
     assert_eq!(display.table_len(), 1023);
     let mut write = |display: &mut Display, offset: usize, data: &[u8]| {
-        let length =
-            build_table_write(TABLE_CODE, offset as u16, data, &mut message).expect("built");
-        display
-            .step(b"", &mut table, &message[..length], &mut out)
-            .0
+        let length = build_table_write(TABLE_CODE, offset as u16, data, &mut message).expect("built");
+        display.step(b"", &mut table, &message[..length], &mut out).0
     };
     assert_eq!(write(&mut display, 1024, &[]), 10);
     assert_eq!(write(&mut display, 1023, &list[1023..1025]), 11);
@@ -324,19 +272,13 @@ fn no_tail_of_a_longer_old_table() {
         (0, &b""[..], 0),
     ] {
         let n = build_table_write(TABLE_CODE, offset, data, &mut message).expect("built");
-        assert_eq!(
-            display.step(b"", &mut table, &message[..n], &mut out),
-            (0, 0)
-        );
+        assert_eq!(display.step(b"", &mut table, &message[..n], &mut out), (0, 0));
         assert_eq!(display.table_len(), length);
     }
     assert_eq!(&table[..8], b"xycXefgh");
     let n = build_table_read(TABLE_CODE, 0, &mut message).expect("built");
     let (answer, reply_len) = display.step(b"", &mut table, &message[..n], &mut out);
-    assert_eq!(
-        (answer, &out[..reply_len]),
-        (0, &[0x6E, 0x83, 0xE4, 0, 0, 0x59][..])
-    );
+    assert_eq!((answer, &out[..reply_len]), (0, &[0x6E, 0x83, 0xE4, 0, 0, 0x59][..]));
 }
 
 /// Runs a transfer of the display's text without noise.
@@ -378,10 +320,7 @@ fn budget_l_and_l_plus_1() {
 fn beginnings() {
     let (answer, transfer) = Transfer::begin(Text::Table, 100, 65_536);
     assert_eq!((answer, transfer.state()), (18, State::Exhausted));
-    assert_eq!(
-        (transfer.room(), transfer.budget(), transfer.count()),
-        (0, 0, 0)
-    );
+    assert_eq!((transfer.room(), transfer.budget(), transfer.count()), (0, 0, 0));
     let (answer, transfer) = Transfer::begin(Text::Table, 100, u64::MAX);
     assert_eq!((answer, transfer.state()), (18, State::Exhausted));
     let (answer, transfer) = Transfer::begin(Text::Table, 5000, 0);
@@ -400,13 +339,7 @@ fn rules_of_receiving() {
     let mut out = [0; 38];
     assert_eq!(transfer.request(&mut out[..37]), (1, 0));
     assert_eq!(transfer.request(&mut out), (0, 7));
-    assert_eq!(
-        read_request(&out[..7]),
-        Ok(Request::TableRead {
-            code: 0xF4,
-            offset: 0
-        })
-    );
+    assert_eq!(read_request(&out[..7]), Ok(Request::TableRead { code: 0xF4, offset: 0 }));
     // A buffer of another length is 1 and not counted.
     assert_eq!(transfer.receive(&mut [0; 3], &[]), 1);
     assert_eq!(transfer.receive(&mut [0; 5], &[]), 1);
@@ -418,10 +351,7 @@ fn rules_of_receiving() {
     assert_eq!(transfer.receive(&mut buffer, &reply[..n]), 10);
     let n = build_table_read_reply(1, b"ab", &mut reply).expect("built");
     assert_eq!(transfer.receive(&mut buffer, &reply[..n]), 10);
-    assert_eq!(
-        (transfer.count(), transfer.offset(), buffer),
-        (4, 0, [0xA5; 4])
-    );
+    assert_eq!((transfer.count(), transfer.offset(), buffer), (4, 0, [0xA5; 4]));
     // A fragment is put once; the same one again is 10.
     let n = build_table_read_reply(0, b"ab", &mut reply).expect("built");
     assert_eq!(transfer.receive(&mut buffer, &reply[..n]), 0);

@@ -4,15 +4,8 @@ use oracle::line::Random;
 use oracle::message::*;
 
 /// The commands of one end with the body lengths that each may have.
-const REQUESTS: [(u8, usize, usize); 7] = [
-    (0x01, 2, 2),
-    (0x03, 4, 4),
-    (0x07, 1, 1),
-    (0x0C, 1, 1),
-    (0xF3, 3, 3),
-    (0xE2, 4, 4),
-    (0xE7, 4, 35),
-];
+const REQUESTS: [(u8, usize, usize); 7] =
+    [(0x01, 2, 2), (0x03, 4, 4), (0x07, 1, 1), (0x0C, 1, 1), (0xF3, 3, 3), (0xE2, 4, 4), (0xE7, 4, 35)];
 const REPLIES: [(u8, usize, usize); 4] = [(0x02, 8, 8), (0xE3, 3, 35), (0x4E, 6, 6), (0xE4, 3, 35)];
 
 /// What a request is refused with, rule after rule; 0 where it is read.
@@ -144,17 +137,10 @@ fn any_bytes() {
             }
             if random.percent(60) {
                 // A body length that the command may have, where the slice has it.
-                let row = REQUESTS
-                    .iter()
-                    .chain(&REPLIES)
-                    .find(|row| row.0 == slice[2]);
+                let row = REQUESTS.iter().chain(&REPLIES).find(|row| row.0 == slice[2]);
                 if let Some(&(_, least, most)) = row {
                     let fit = random.between(least, most);
-                    let fits = if to_display {
-                        fit < n
-                    } else {
-                        fit <= length - 3
-                    };
+                    let fits = if to_display { fit < n } else { fit <= length - 3 };
                     if fits {
                         end = fit + 3;
                     }
@@ -178,11 +164,7 @@ fn any_bytes() {
                 slice[end - 1] = sum;
             }
         }
-        let slice = if to_display {
-            &bytes[..end]
-        } else {
-            &bytes[..length]
-        };
+        let slice = if to_display { &bytes[..end] } else { &bytes[..length] };
         if to_display {
             requests[usize::from(check_request(slice))] += 1;
         } else {
@@ -209,9 +191,7 @@ fn every_length_byte_and_command() {
                 bytes[1] = length;
                 bytes[2] = command;
                 let slice = &mut bytes[..slice_len];
-                let sum = slice[..slice_len - 1]
-                    .iter()
-                    .fold(0x6E, |sum, byte| sum ^ byte);
+                let sum = slice[..slice_len - 1].iter().fold(0x6E, |sum, byte| sum ^ byte);
                 slice[slice_len - 1] = sum;
                 check_request(slice);
 
@@ -238,19 +218,12 @@ fn built_messages_are_read() {
         let (code, offset) = (random.byte(), random.word());
         let request = match random.below(7) {
             0 => Request::Get { code },
-            1 => Request::Set {
-                code,
-                value: offset,
-            },
+            1 => Request::Set { code, value: offset },
             2 => Request::Timing,
             3 => Request::Save,
             4 => Request::Capabilities { offset },
             5 => Request::TableRead { code, offset },
-            _ => Request::TableWrite {
-                code,
-                offset,
-                data: &data[..random.below(40)],
-            },
+            _ => Request::TableWrite { code, offset, data: &data[..random.below(40)] },
         };
         let mut out = [0xA5; 38];
         match request.build(&mut out) {
@@ -273,14 +246,8 @@ fn built_messages_are_read() {
                 horizontal: random.word(),
                 vertical: random.word(),
             },
-            2 => Reply::Capabilities {
-                offset,
-                data: &data[..random.below(40)],
-            },
-            _ => Reply::Table {
-                offset,
-                data: &data[..random.below(40)],
-            },
+            2 => Reply::Capabilities { offset, data: &data[..random.below(40)] },
+            _ => Reply::Table { offset, data: &data[..random.below(40)] },
         };
         let mut out = [0xA5; 64];
         random.fill(&mut out[38..]);

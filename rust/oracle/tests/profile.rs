@@ -7,15 +7,7 @@ use oracle::settings::{Declaration, Settings};
 fn settings(codes: &[(u8, bool, u16, u16)]) -> Settings {
     let mut settings = Settings::new();
     for &(code, continuous, maximum, present) in codes {
-        let declaration = Declaration {
-            code,
-            readable: true,
-            writable: true,
-            kind: 0,
-            continuous,
-            maximum,
-            present,
-        };
+        let declaration = Declaration { code, readable: true, writable: true, kind: 0, continuous, maximum, present };
         assert_eq!(settings.declare(declaration), 0);
     }
     settings
@@ -37,11 +29,7 @@ fn load(settings: &Settings, bytes: &[u8], expected: Result<(), (u8, usize)>) {
 
 #[test]
 fn refusals_with_places() {
-    let three = settings(&[
-        (0x10, true, 100, 50),
-        (0x12, false, 5, 4000),
-        (0x60, true, 9, 0),
-    ]);
+    let three = settings(&[(0x10, true, 100, 50), (0x12, false, 5, 4000), (0x60, true, 9, 0)]);
     let whole = [record(0x10, 99), record(0x12, 65_535), record(0x60, 9)].concat();
     load(&three, &whole, Ok(()));
     // Cut at every length: missing records at the end, or a cut record's start.
@@ -60,14 +48,7 @@ fn refusals_with_places() {
         bytes
     };
     for index in 0..3 {
-        for (field, byte, number) in [
-            (0, 4, 17),
-            (0, 6, 17),
-            (1, 1, 17),
-            (2, 2, 17),
-            (3, 1, 17),
-            (4, 0x11, 8),
-        ] {
+        for (field, byte, number) in [(0, 4, 17), (0, 6, 17), (1, 1, 17), (2, 2, 17), (3, 1, 17), (4, 0x11, 8)] {
             let place = index * 7;
             load(&three, &changed(place + field, byte), Err((number, place)));
         }
@@ -95,27 +76,10 @@ fn refusals_with_places() {
 #[test]
 fn loading_sets_present_and_saved() {
     let mut two = settings(&[(0x00, true, 100, 50), (0xFF, false, 0, 7)]);
-    let momentary = Declaration {
-        code: 0x20,
-        readable: true,
-        writable: true,
-        kind: 1,
-        continuous: false,
-        maximum: 3,
-        present: 2,
-    };
-    let read_only = Declaration {
-        code: 0x21,
-        writable: false,
-        kind: 0,
-        ..momentary
-    };
-    let write_only = Declaration {
-        code: 0x22,
-        readable: false,
-        kind: 0,
-        ..momentary
-    };
+    let momentary =
+        Declaration { code: 0x20, readable: true, writable: true, kind: 1, continuous: false, maximum: 3, present: 2 };
+    let read_only = Declaration { code: 0x21, writable: false, kind: 0, ..momentary };
+    let write_only = Declaration { code: 0x22, readable: false, kind: 0, ..momentary };
     for declaration in [momentary, read_only, write_only] {
         assert_eq!(two.declare(declaration), 0);
     }
@@ -161,10 +125,8 @@ fn short_outputs() {
 #[test]
 fn any_bytes() {
     let mut random = Random::new(6);
-    let codes: Vec<_> = (0..=255_u8)
-        .filter(|&code| code != 0xF4)
-        .map(|code| (code, code % 2 == 0, 1000, u16::from(code)))
-        .collect();
+    let codes: Vec<_> =
+        (0..=255_u8).filter(|&code| code != 0xF4).map(|code| (code, code % 2 == 0, 1000, u16::from(code))).collect();
     let all = settings(&codes);
     let mut sheet = vec![0; 255 * 7];
     assert_eq!(profile::write(&all, &mut sheet), Ok(255 * 7));

@@ -26,7 +26,7 @@ pub fn text(length: usize) -> Vec<u8> {
     let mut code = 0u32;
     while text.len() + margin < length {
         text.extend(format!("{:02X} {words}", code % 256).bytes());
-        if code % 7 == 0 {
+        if code.is_multiple_of(7) {
             text.extend(format!("{:02X}(01 02 04) ", (code * 3) % 256).bytes());
         }
         code += 1;
@@ -68,7 +68,11 @@ fn plain(text: &[u8], lent: &mut Lent) -> Result<usize, (u8, usize)> {
             }
             (State::Free | State::Word | State::Gap, b')') => {
                 depth -= 1;
-                if depth == 0 { State::After } else { State::Free }
+                if depth == 0 {
+                    State::After
+                } else {
+                    State::Free
+                }
             }
             (State::Free, b' ') => State::Free,
             (State::Word | State::Gap, b' ') => State::Gap,
@@ -103,7 +107,15 @@ pub fn run() {
         let times = both(
             2_000_000 / length,
             || ddcci::read_into(black_box(&text), &mut a.starts, &mut a.lengths, &mut a.parents, &mut a.groups),
-            || oracle::capabilities::read_one_pass(black_box(&text), &mut b.starts, &mut b.lengths, &mut b.parents, &mut b.groups),
+            || {
+                oracle::capabilities::read_one_pass(
+                    black_box(&text),
+                    &mut b.starts,
+                    &mut b.lengths,
+                    &mut b.parents,
+                    &mut b.groups,
+                )
+            },
         );
         line(&format!("capabilities string of {} bytes", text.len()), times);
         let nodes = ddcci::read_into(&text, &mut a.starts, &mut a.lengths, &mut a.parents, &mut a.groups).unwrap();

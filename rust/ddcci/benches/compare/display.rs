@@ -24,7 +24,9 @@ fn ours(text: &[u8]) -> Display {
     let mut display = Display::start(Timing::default(), text, SIZE).unwrap();
     for code in 0..CODES {
         let (maximum, present) = (100, 50);
-        display.declare(Declaration { code, readable: true, writable: true, kind: 0, continuous: true, maximum, present }).unwrap();
+        display
+            .declare(Declaration { code, readable: true, writable: true, kind: 0, continuous: true, maximum, present })
+            .unwrap();
     }
     display
 }
@@ -33,7 +35,15 @@ fn theirs(text: &[u8]) -> slow::Display {
     let (_, mut display) = slow::Display::start(slow::Timing::default(), text, SIZE.into());
     for code in 0..CODES {
         let (maximum, present) = (100, 50);
-        display.declare(slow_settings::Declaration { code, readable: true, writable: true, kind: 0, continuous: true, maximum, present });
+        display.declare(slow_settings::Declaration {
+            code,
+            readable: true,
+            writable: true,
+            kind: 0,
+            continuous: true,
+            maximum,
+            present,
+        });
     }
     display
 }
@@ -41,7 +51,13 @@ fn theirs(text: &[u8]) -> slow::Display {
 // Both sides stand behind one call that is not inlined, as a library's functions do.
 
 #[inline(never)]
-fn by_value(mut display: slow::Display, text: &[u8], table: &mut [u8], message: &[u8], out: &mut [u8]) -> (slow::Display, u8, usize) {
+fn by_value(
+    mut display: slow::Display,
+    text: &[u8],
+    table: &mut [u8],
+    message: &[u8],
+    out: &mut [u8],
+) -> (slow::Display, u8, usize) {
     let (answer, length) = display.step(text, table, message, out);
     (display, answer, length)
 }

@@ -69,7 +69,15 @@ fn beside(name: &str, mut theirs: impl FnMut(&CStr) -> c_int) {
         let mut lent = Lent::new();
         let times = both(
             500,
-            || ddcci::read_into(black_box(&text), &mut lent.starts, &mut lent.lengths, &mut lent.parents, &mut lent.groups),
+            || {
+                ddcci::read_into(
+                    black_box(&text),
+                    &mut lent.starts,
+                    &mut lent.lengths,
+                    &mut lent.parents,
+                    &mut lent.groups,
+                )
+            },
             || theirs(black_box(&terminated)),
         );
         line(&format!("{} bytes, beside {name}", text.len()), times);

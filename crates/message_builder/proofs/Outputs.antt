@@ -11,6 +11,7 @@ use lib.Seq.{take-at, drop-at, take-all, take-length, drop-drop, drop-cons, set-
 use borrow.Rule.Slice.PartMut.{midOf, postOf, putMid, post-is}
 use borrow.Author.Tests.{le-leb, lt-leb}
 use Rattle.checksum.specs.Xor.{xorAll}
+use Rattle.checksum.proofs.Laws.{xorAll-append}
 use Rattle.message_rules.specs.Limits.{outputRoom, mostFragment}
 use Rattle.message_rules.specs.Frame.{plain, closed, frame}
 use Rattle.message_rules.specs.declared.Address.{Address}
@@ -37,12 +38,11 @@ part-next out x y p ys at end e a h l f =
     ∙ over-next out x y
 
 -- the checksum put behind it all
-pub over-closed : (seed : ℕ) (p out : List ℕ) (n : ℕ) → length p ≡ n → n < length out → set (over p out) n (xorAll seed (take n (over p out))) ≡ over (closed seed p) out
+pub over-closed : (seed : ℕ) (p out : List ℕ) (n : ℕ) → length p ≡ n → n < length out → set (over p out) n (xorAll seed p) ≡ over (closed seed p) out
 over-closed seed p out n l h =
     let v : ℕ = xorAll seed p in
     let end : suc n ≡ length (closed seed p) = omega (arith, length-append p (v ∷ []), l) in
-    ap (λ (q : List ℕ). set (over p out) n (xorAll seed q)) (take-at p (drop (length p) out) n l)
-    ∙ ap (λ (k : ℕ). set (p ++ drop k out) n v) l
+    ap (λ (k : ℕ). set (p ++ drop k out) n v) l
     ∙ ap (λ (q : List ℕ). set (p ++ q) n v) (drop-cons out n 0 h)
     ∙ set-at p (getD out n 0) (drop (suc n) out) v n l
     ∙ sym (append-snoc p v (drop (suc n) out))
@@ -83,18 +83,19 @@ fragment-as a number o s p b =
     unit true = refl
     unit false = refl
 
--- what `build` leaves: the head, the data in the part behind it, and the checksum behind both
-pub built : (seed at more end r : ℕ) (x y out p ys o : List ℕ) → length x + length y < length out
+-- what `build` leaves: the head, the data in the part behind it, and the checksum of both behind them
+pub built : (seed sum at more end r : ℕ) (x y out p ys o : List ℕ) → length x + length y < length out
+    → sum ≡ xorAll (xorAll seed x) y
     → at ≡ length x → p ≡ take (length x) x ++ drop (length x) out → end ≡ length p
     → more ≡ length y → ys ≡ take (length y) y ++ drop (length y) (midOf at (end - at) p)
-    → r ≡ at + more + 1 → o ≡ set (putMid at (end - at) p ys) (at + more) (xorAll seed (take (at + more) (putMid at (end - at) p ys)))
+    → r ≡ at + more + 1 → o ≡ set (putMid at (end - at) p ys) (at + more) sum
     → (r ≡ length (closed seed (x ++ y))) × (o ≡ over (closed seed (x ++ y)) out)
-built seed at more end r x y out p ys o h a e l m f q g =
+built seed sum at more end r x y out p ys o h s a e l m f q g =
     let e1 : p ≡ over x out = e ∙ ap (λ (t : List ℕ). t ++ drop (length x) out) (take-length x) in
     let f1 : ys ≡ over y (midOf at (end - at) p) = f ∙ ap (λ (t : List ℕ). t ++ drop (length y) (midOf at (end - at) p)) (take-length y) in
     let n : length (x ++ y) ≡ at + more = omega (arith, length-append x y) in
     let w : length p ≡ length out = ap length e1 ∙ simp (length-append, length-drop) (omega arith) in
     let put : putMid at (end - at) p ys ≡ over (x ++ y) out = part-next out x y p ys at end e1 a (omega arith) l f1 in (
       omega (arith, length-append (x ++ y) (xorAll seed (x ++ y) ∷ [])),
-      g ∙ ap (λ (t : List ℕ). set t (at + more) (xorAll seed (take (at + more) t))) put ∙ over-closed seed (x ++ y) out (at + more) n (omega arith),
+      g ∙ ap₂ (λ (t : List ℕ) (v : ℕ). set t (at + more) v) put (s ∙ sym (xorAll-append seed x y)) ∙ over-closed seed (x ++ y) out (at + more) n (omega arith),
     )

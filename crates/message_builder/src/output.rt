@@ -3,8 +3,7 @@ ghost use mathlib.Core.Path.{_≡_};
 ghost use mathlib.Core.Bool.{true};
 ghost use mathlib.Core.List.{_++_};
 ghost use Prim.Native.Nat.{_+_, _/_, _%_, _<_};
-ghost use lib.ListN.{length, take, set};
-ghost use Rattle.checksum.specs.Xor.{xorAll};
+ghost use lib.ListN.{length, set};
 ghost use Rattle.message_rules.specs.Frame.{closed};
 ghost use Rattle.message_builder.specs.Output.{Builds, refusal};
 use crate::Built;
@@ -24,16 +23,15 @@ pub(crate) fn low(w: u16) -> u8
 }
 
 // Puts the checksum behind the first n bytes, and returns how many there are then.
-fn close(seed: u8, n: usize, out: &mut [u8]) -> usize
+fn close(sum: u8, n: usize, out: &mut [u8]) -> usize
     requires { ⌜ n < length (now out) ⌝ }
-    ensures { λ r. ⌜ (r ≡ n + 1) × (now (out .exit) ≡ set (now (out .entry)) n (xorAll seed (take n (now (out .entry))))) ⌝ }
+    ensures { λ r. ⌜ (r ≡ n + 1) × (now (out .exit) ≡ set (now (out .entry)) n sum) ⌝ }
 {
-    let sum = checksum::checksum(seed, &out[0..n]);
     out[n] = sum;
     n + 1
 }
 
-// Builds the message of these bytes: a head with the fields, data, and the checksum behind them.
+// Builds the message of these bytes: a head with the fields, data, and the checksum behind them. The checksum is taken of both as they were given, and not of the output, whose bytes have only just been stored.
 pub(crate) fn build(seed: u8, head: &[u8], data: &[u8], out: &mut [u8]) -> Built
     requires { ⌜ length (now head) + length (now «data») < 38 ⌝ }
     ensures { λ r. ⌜ Builds true (closed seed (now (head .entry) ++ now («data» .entry))) (now (out .entry)) (now (out .exit)) r ⌝ }
@@ -41,9 +39,10 @@ pub(crate) fn build(seed: u8, head: &[u8], data: &[u8], out: &mut [u8]) -> Built
     if out.len() < limits::OUTPUT_ROOM {
         return Built::Refused(answer::WRONG_SIZE);
     }
+    let sum = checksum::checksum(checksum::checksum(seed, head), data);
     let at = bytes::copy(head, out);
     let more = bytes::copy(data, &mut out[at..]);
-    Built::Done(close(seed, at + more, out))
+    Built::Done(close(sum, at + more, out))
 }
 
 // Refuses a message that is not allowed: the output's size is judged first.

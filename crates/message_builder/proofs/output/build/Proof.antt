@@ -1,10 +1,12 @@
 -- `message_builder::output::build` meets its contract.
 -- Assumes nothing.
-use mathlib.Core.Path.{refl}
+use mathlib.Core.Path.{refl, ap, _∙_}
 use lib.ListN.{length}
 use mathlib.Core.Bool.{true}
 use mathlib.Core.List.{_++_}
+use Prim.Native.Nat.{ℕ}
 use native.Mathlib.Omega.{arith}
+use Rattle.checksum.specs.Xor.{xorAll}
 use Rattle.message_rules.specs.Frame.{closed}
 use Rattle.message_builder.proofs.Outputs.{builds-none, builds-done, built}
 use borrow.Author.Needs.{needs}
@@ -13,6 +15,12 @@ use Rattle.message_builder.proofs.output.build.Tie as tie
 
 returns : tie.Need-returns
 returns c = let a = c .before .before .before .before .args in builds-none true (closed (a .seed) (a .head .now ++ a .«data» .now)) (a .out .now) (c .if1 .taken)
+
+checksum-requires : tie.Need-checksum-requires
+checksum-requires c κs = search needs
+
+checksum-requires-2 : tie.Need-checksum-requires-2
+checksum-requires-2 c κs = search needs
 
 copy-requires : tie.Need-copy-requires
 copy-requires c κs = search needs
@@ -41,12 +49,14 @@ same-length c = search needs
 returns-2 : tie.Need-returns-2
 returns-2 c =
     let b = c .before .before .before .before .before .before .before .before .before .before in
-    let a = b .before .before .before .before .before .before .args in
+    let k = b .before .before in
+    let a = k .before .before .before .before .before .before .args in
+    let sum = k .checksum2 .ensures ∙ ap (λ (s : ℕ). xorAll s (a .«data» .now)) (k .before .checksum .ensures) in
     let head = b .copy in
     let more = c .before .before .before .before .before .before .copy2 in
     let f = c .before .before .close in
-    let e = built (a .seed) (head .result) (more .result) (length (head .last .1 .0)) (f .result) (a .head .now) (a .«data» .now) (a .out .now) (head .last .1 .0) (more .last .1 .0) (f .last .1 .1 .0)
-    (omega arith) (head .ensures .0) (head .ensures .1) refl (more .ensures .0) (more .ensures .1) (f .ensures .0) (f .ensures .1) in
+    let e = built (a .seed) (k .checksum2 .result) (head .result) (more .result) (length (head .last .1 .0)) (f .result) (a .head .now) (a .«data» .now) (a .out .now) (head .last .1 .0) (more .last .1 .0) (f .last .1 .1 .0)
+    (omega arith) sum (head .ensures .0) (head .ensures .1) refl (more .ensures .0) (more .ensures .1) (f .ensures .0) (f .ensures .1) in
     builds-done true (closed (a .seed) (a .head .now ++ a .«data» .now)) (a .out .now) (omega arith) refl (f .result) (f .last .1 .1 .0) (e .0) (e .1)
 
 pub build-spec : {M : Type 1} → statement M
@@ -54,6 +64,8 @@ build-spec =
     tie.close
     (tie.spec
     returns
+    checksum-requires
+    checksum-requires-2
     copy-requires
     sub-copy
     part-copy-start

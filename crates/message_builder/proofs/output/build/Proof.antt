@@ -1,6 +1,6 @@
 -- `message_builder::output::build` meets its contract.
 -- Assumes nothing.
-use mathlib.Core.Path.{refl, ap, _∙_}
+use mathlib.Core.Path.{_≡_, refl, ap, _∙_}
 use lib.ListN.{length}
 use mathlib.Core.Bool.{true}
 use mathlib.Core.List.{_++_}
@@ -51,7 +51,7 @@ returns-2 c =
     let b = c .before .before .before .before .before .before .before .before .before .before in
     let k = b .before .before in
     let a = k .before .before .before .before .before .before .args in
-    let sum = k .checksum2 .ensures ∙ ap (λ (s : ℕ). xorAll s (a .«data» .now)) (k .before .checksum .ensures) in
+    let sum : k .checksum2 .result ≡ xorAll (xorAll (a .seed) (a .head .now)) (a .«data» .now) = k .checksum2 .ensures ∙ ap (λ (s : ℕ). xorAll s (a .«data» .now)) (k .before .checksum .ensures) in
     let head = b .copy in
     let more = c .before .before .before .before .before .before .copy2 in
     let f = c .before .before .close in

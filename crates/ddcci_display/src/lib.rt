@@ -120,10 +120,7 @@ pub extern "C" fn ddcci_display_step(
         Pending::Save => {
             return plain(changes::saved(d), answer::DONE, 0);
         }
-        Pending::Shown(length) => {
-            return plain(d, answer::DONE, length);
-        }
-        Pending::Told(answer, length) => {
+        Pending::Replied(answer, length) => {
             return plain(d, answer, length);
         }
         Pending::Moved(kind, cursor, length) => {

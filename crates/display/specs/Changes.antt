@@ -9,7 +9,7 @@ use Rattle.display_rules.specs.declared.Display.{Display}
 use Rattle.display_rules.specs.declared.Found.the-variants.{Nothing, Fragment}
 use Rattle.display_rules.specs.declared.Stepped.{Stepped}
 use Rattle.display.specs.declared.changes.Pending.{Pending}
-use Rattle.display.specs.declared.changes.Pending.the-variants.{Store, Save, Shown, Told, Moved, Written, Refused}
+use Rattle.display.specs.declared.changes.Pending.the-variants.{Store, Save, Replied, Moved, Written, Refused}
 
 abbrev pub kept : Display → (answer length : ℕ) → Stepped
 kept d k n = record { display = d; answer = k; length = n; found = Nothing }
@@ -21,8 +21,7 @@ moved d k c n = record { display = withCursor k d c; answer = done; length = n; 
 abbrev pub stepped : Display → Pending → Stepped
 stepped d (Store c value) = kept (withSettings d (withPresent (d .settings) c value)) done 0
 stepped d Save = kept (withSettings d (saveAll (d .settings))) done 0
-stepped d (Shown n) = kept d done n
-stepped d (Told k n) = kept d k n
+stepped d (Replied k n) = kept d k n
 stepped d (Moved k c n) = moved d k c n
 stepped d (Written n) = kept (withTable d (unsent n)) done 0
 stepped d (Refused k n) = kept d k n

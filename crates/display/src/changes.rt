@@ -12,14 +12,13 @@ use display_texts::table;
 use message_rules::TextKind;
 use message_rules::answer;
 
-// What a message leaves to be done to the display: the value of an accepted Set is stored; a Save; a reply of so many bytes was sent, to a Get (answer 0) or to a Timing with its answer; a fragment was sent in such a reply;
-// the table was written, with its length afterwards; or the message was refused. Replies that change nothing are told apart because whoever copies the display then does so once for each, at the end of a
-// short way: the compiler looks back over no more than 100 stores to see that the display is still as it was passed.
+// What a message leaves to be done to the display: the value of an accepted Set is stored; a Save; a reply of so many bytes was sent, to a Get or, with its answer, to a Timing; a fragment was sent in such a reply; the table
+// was written, with its length afterwards; or the message was refused. A reply and a refusal, which both change nothing, are told apart because whoever copies the display then does so once for each, at the end
+// of a short way: the compiler looks back over no more than 100 stores to see that the display is still as it was passed.
 pub enum Pending {
     Store(u8, u16),
     Save,
-    Shown(usize),
-    Told(u8, usize),
+    Replied(u8, usize),
     Moved(TextKind, FragmentCursor, usize),
     Written(u16),
     Refused(u8, usize),
@@ -111,8 +110,7 @@ pub fn carry_out(d: Display, pending: Pending) -> Stepped
     match pending {
         Pending::Store(code, value) => kept(stored(d, code, value), answer::DONE, 0),
         Pending::Save => kept(saved(d), answer::DONE, 0),
-        Pending::Shown(length) => kept(d, answer::DONE, length),
-        Pending::Told(answer, length) => kept(d, answer, length),
+        Pending::Replied(answer, length) => kept(d, answer, length),
         Pending::Moved(kind, cursor, length) => moved(d, kind, cursor, length),
         Pending::Written(length) => kept(written(d, length), answer::DONE, 0),
         Pending::Refused(answer, length) => kept(d, answer, length),

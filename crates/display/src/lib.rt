@@ -134,7 +134,10 @@ fn obey(
     ensures { λ r. ⌜ left (stepped d r) (now (table .exit)) (now (out .exit)) ≡ outcome (turnOf d (now (text .entry)) (now (table .entry)) (requestIn (now (message .entry)) request)) (now (out .entry)) ⌝ }
 {
     match request {
-        RequestRead::Get(code) => Pending::Shown(operation::get(d.settings, code, out)),
+        RequestRead::Get(code) => {
+            let length = operation::get(d.settings, code, out);
+            Pending::Replied(answer::DONE, length)
+        }
         RequestRead::Set(code, value) => operation::set(d.settings, code, value),
         RequestRead::Timing => operation::timing(d.settings, out),
         RequestRead::Save => Pending::Save,

@@ -58,8 +58,8 @@ pub(crate) fn timing(s: Settings, out: &mut [u8]) -> Pending
 {
     let built = reply::build_timing_reply(TO_HOST, s.status, s.horizontal, s.vertical, out);
     match built {
-        Built::Done(n) => Pending::Told(answer::DONE, n),
-        Built::Refused(answer) => Pending::Told(answer, 0),
+        Built::Done(n) => Pending::Replied(answer::DONE, n),
+        Built::Refused(answer) => Pending::Replied(answer, 0),
     }
 }
 

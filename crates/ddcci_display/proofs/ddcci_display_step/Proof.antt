@@ -68,8 +68,8 @@ returns-3 c =
 enum-known-pending-3 : tie.Need-enum-known-pending-3
 enum-known-pending-3 c = search needs
 
-plain-requires-4 : tie.Need-plain-requires-4
-plain-requires-4 c κs = search needs
+moved-requires : tie.Need-moved-requires
+moved-requires c κs = search needs
 
 same-length-7 : tie.Need-same-length-7
 same-length-7 c = search needs
@@ -80,13 +80,16 @@ same-length-8 c = search needs
 returns-4 : tie.Need-returns-4
 returns-4 c =
     let p = c .before .before .before .before .before .before .before .before .prepare in
-    steps-from (stepped (c .before .before .before .before .before .before .before .before .before .before .before .before .before .before .before .args .d) (p .result)) _ _ _ (p .ensures) (rw (c .before .before .pending3 .given .1, c .plain4 .ensures))
+    steps-from (stepped (c .before .before .before .before .before .before .before .before .before .before .before .before .before .before .before .args .d) (p .result)) _ _ _ (p .ensures) (rw (c .before .before .pending3 .given .1, c .moved .ensures))
 
 enum-known-pending-4 : tie.Need-enum-known-pending-4
 enum-known-pending-4 c = search needs
 
-moved-requires : tie.Need-moved-requires
-moved-requires c κs = search needs
+written-requires : tie.Need-written-requires
+written-requires c κs = search needs
+
+plain-requires-4 : tie.Need-plain-requires-4
+plain-requires-4 c κs = search needs
 
 same-length-9 : tie.Need-same-length-9
 same-length-9 c = search needs
@@ -96,14 +99,11 @@ same-length-10 c = search needs
 
 returns-5 : tie.Need-returns-5
 returns-5 c =
-    let p = c .before .before .before .before .before .before .before .before .prepare in
-    steps-from (stepped (c .before .before .before .before .before .before .before .before .before .before .before .before .before .before .before .args .d) (p .result)) _ _ _ (p .ensures) (rw (c .before .before .pending4 .given .1, c .moved .ensures))
+    let p = c .before .before .before .before .before .before .before .before .before .prepare in
+    steps-from (stepped (c .before .before .before .before .before .before .before .before .before .before .before .before .before .before .before .before .args .d) (p .result)) _ _ _ (p .ensures) (rw (c .before .before .before .pending4 .given .1, c .plain4 .ensures, c .before .written .ensures))
 
 enum-known-pending-5 : tie.Need-enum-known-pending-5
 enum-known-pending-5 c = search needs
-
-written-requires : tie.Need-written-requires
-written-requires c κs = search needs
 
 plain-requires-5 : tie.Need-plain-requires-5
 plain-requires-5 c κs = search needs
@@ -116,25 +116,8 @@ same-length-12 c = search needs
 
 returns-6 : tie.Need-returns-6
 returns-6 c =
-    let p = c .before .before .before .before .before .before .before .before .before .prepare in
-    steps-from (stepped (c .before .before .before .before .before .before .before .before .before .before .before .before .before .before .before .before .args .d) (p .result)) _ _ _ (p .ensures) (rw (c .before .before .before .pending5 .given .1, c .plain5 .ensures, c .before .written .ensures))
-
-enum-known-pending-6 : tie.Need-enum-known-pending-6
-enum-known-pending-6 c = search needs
-
-plain-requires-6 : tie.Need-plain-requires-6
-plain-requires-6 c κs = search needs
-
-same-length-13 : tie.Need-same-length-13
-same-length-13 c = search needs
-
-same-length-14 : tie.Need-same-length-14
-same-length-14 c = search needs
-
-returns-7 : tie.Need-returns-7
-returns-7 c =
     let p = c .before .before .before .before .before .before .before .before .prepare in
-    steps-from (stepped (c .before .before .before .before .before .before .before .before .before .before .before .before .before .before .before .args .d) (p .result)) _ _ _ (p .ensures) (rw (c .before .before .pending6 .given .1, c .plain6 .ensures))
+    steps-from (stepped (c .before .before .before .before .before .before .before .before .before .before .before .before .before .before .before .args .d) (p .result)) _ _ _ (p .ensures) (rw (c .before .before .pending5 .given .1, c .plain5 .ensures))
 
 pub ddcci-display-step-spec : {M : Type 1} → statement M
 ddcci-display-step-spec =
@@ -159,23 +142,18 @@ ddcci-display-step-spec =
     same-length-6
     returns-3
     enum-known-pending-3
-    plain-requires-4
+    moved-requires
     same-length-7
     same-length-8
     returns-4
     enum-known-pending-4
-    moved-requires
+    written-requires
+    plain-requires-4
     same-length-9
     same-length-10
     returns-5
     enum-known-pending-5
-    written-requires
     plain-requires-5
     same-length-11
     same-length-12
-    returns-6
-    enum-known-pending-6
-    plain-requires-6
-    same-length-13
-    same-length-14
-    returns-7)
+    returns-6)

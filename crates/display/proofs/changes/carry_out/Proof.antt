@@ -30,29 +30,23 @@ kept-requires-3 c κs = search needs
 enum-known-pending-3 : tie.Need-enum-known-pending-3
 enum-known-pending-3 c = search needs
 
-kept-requires-4 : tie.Need-kept-requires-4
-kept-requires-4 c κs = search needs
+moved-requires : tie.Need-moved-requires
+moved-requires c κs = search needs
 
 enum-known-pending-4 : tie.Need-enum-known-pending-4
 enum-known-pending-4 c = search needs
 
-moved-requires : tie.Need-moved-requires
-moved-requires c κs = search needs
+written-requires : tie.Need-written-requires
+written-requires c κs = search needs
+
+kept-requires-4 : tie.Need-kept-requires-4
+kept-requires-4 c κs = search needs
 
 enum-known-pending-5 : tie.Need-enum-known-pending-5
 enum-known-pending-5 c = search needs
 
-written-requires : tie.Need-written-requires
-written-requires c κs = search needs
-
 kept-requires-5 : tie.Need-kept-requires-5
 kept-requires-5 c κs = search needs
-
-enum-known-pending-6 : tie.Need-enum-known-pending-6
-enum-known-pending-6 c = search needs
-
-kept-requires-6 : tie.Need-kept-requires-6
-kept-requires-6 c κs = search needs
 
 returns : tie.Need-returns
 returns c = rw (c .before .before .before .pending .given .1, c .kept .ensures, c .before .stored .ensures)
@@ -64,16 +58,13 @@ returns-3 : tie.Need-returns-3
 returns-3 c = rw (c .before .before .pending2 .given .1) (c .kept3 .ensures)
 
 returns-4 : tie.Need-returns-4
-returns-4 c = rw (c .before .before .pending3 .given .1) (c .kept4 .ensures)
+returns-4 c = rw (c .before .before .pending3 .given .1) (c .moved .ensures)
 
 returns-5 : tie.Need-returns-5
-returns-5 c = rw (c .before .before .pending4 .given .1) (c .moved .ensures)
+returns-5 c = rw (c .before .before .before .pending4 .given .1, c .kept4 .ensures, c .before .written .ensures)
 
 returns-6 : tie.Need-returns-6
-returns-6 c = rw (c .before .before .before .pending5 .given .1, c .kept5 .ensures, c .before .written .ensures)
-
-returns-7 : tie.Need-returns-7
-returns-7 c = rw (c .before .before .pending6 .given .1) (c .kept6 .ensures)
+returns-6 c = rw (c .before .before .pending5 .given .1) (c .kept5 .ensures)
 
 pub carry-out-spec : {M : Type 1} → statement M
 carry-out-spec =
@@ -88,18 +79,15 @@ carry-out-spec =
     enum-known-pending-2
     kept-requires-3
     enum-known-pending-3
-    kept-requires-4
-    enum-known-pending-4
     moved-requires
-    enum-known-pending-5
+    enum-known-pending-4
     written-requires
+    kept-requires-4
+    enum-known-pending-5
     kept-requires-5
-    enum-known-pending-6
-    kept-requires-6
     returns
     returns-2
     returns-3
     returns-4
     returns-5
-    returns-6
-    returns-7)
+    returns-6)

@@ -107,7 +107,8 @@ ddcci_display_changed ddcci_display_start(ddcci_display_timing timing, const uin
 /* A code declared, or 18 and the same display. */
 ddcci_display_changed ddcci_display_declare(ddcci_display display, ddcci_display_declaration declaration);
 
-/* One message. The capabilities string has its starting length, the table's buffer DDCCI_DISPLAY_TABLE_ROOM bytes, the output at least DDCCI_DISPLAY_OUTPUT_ROOM. */
+/* One message. The capabilities string has its starting length, the table's buffer DDCCI_DISPLAY_TABLE_ROOM bytes, the output at least DDCCI_DISPLAY_OUTPUT_ROOM. Which code a Set was for,
+ * also of a momentary one, whose value is not kept, tells ddcci_read_request of the same message (ddcci.h). */
 ddcci_display_stepped ddcci_display_step(ddcci_display display, const uint8_t *text, size_t text_length, uint8_t *table, size_t table_length, const uint8_t *message, size_t message_length, uint8_t *out, size_t out_length);
 
 /* The profile of the saved values, a record of 7 bytes for each code that is readable, writable and kept; 1 where the output is too short. */

@@ -76,6 +76,7 @@ impl Display {
     }
 
     /// One message: lent the capabilities string at its starting length, the table's buffer of [`TABLE_ROOM`] bytes and an output of at least [`crate::OUTPUT_ROOM`].
+    /// Which code a Set was for, also of a momentary one, whose value is not kept, tells [`crate::Request::read`] of the same message.
     #[inline]
     pub fn step(&mut self, text: &[u8], table: &mut [u8], message: &[u8], out: &mut [u8]) -> Step {
         let r = unsafe {

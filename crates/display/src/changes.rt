@@ -2,7 +2,7 @@
 ghost use mathlib.Core.Path.{_≡_};
 ghost use Rattle.settings.specs.Settings.{withPresent, saveAll};
 ghost use Rattle.display_rules.specs.State.{unsent, withSettings, withTable, withCursor};
-ghost use Rattle.display.specs.Changes.{kept, moved, stepped};
+ghost use Rattle.display.specs.Changes.{kept, moved};
 use display_rules::Display;
 use display_rules::Found;
 use display_rules::FragmentCursor;
@@ -25,7 +25,7 @@ pub enum Pending {
 }
 
 // The display as it was, with the answer number and the reply's length.
-fn kept(d: Display, answer: u8, length: usize) -> Stepped
+pub(crate) fn kept(d: Display, answer: u8, length: usize) -> Stepped
     ensures { λ r. ⌜ r ≡ kept d answer length ⌝ }
 {
     Stepped {
@@ -91,7 +91,7 @@ pub fn written(mut d: Display, length: u16) -> Display
 }
 
 // A fragment sent.
-fn moved(d: Display, kind: TextKind, cursor: FragmentCursor, length: usize) -> Stepped
+pub(crate) fn moved(d: Display, kind: TextKind, cursor: FragmentCursor, length: usize) -> Stepped
     ensures { λ r. ⌜ r ≡ moved d kind cursor length ⌝ }
 {
     let display = with_cursor(d, kind, cursor);
@@ -100,19 +100,5 @@ fn moved(d: Display, kind: TextKind, cursor: FragmentCursor, length: usize) -> S
         answer: answer::DONE,
         length: length,
         found: Found::Fragment(kind, cursor),
-    }
-}
-
-// The step's result.
-pub fn carry_out(d: Display, pending: Pending) -> Stepped
-    ensures { λ r. ⌜ r ≡ stepped d pending ⌝ }
-{
-    match pending {
-        Pending::Store(code, value) => kept(stored(d, code, value), answer::DONE, 0),
-        Pending::Save => kept(saved(d), answer::DONE, 0),
-        Pending::Replied(answer, length) => kept(d, answer, length),
-        Pending::Moved(kind, cursor, length) => moved(d, kind, cursor, length),
-        Pending::Written(length) => kept(written(d, length), answer::DONE, 0),
-        Pending::Refused(answer, length) => kept(d, answer, length),
     }
 }

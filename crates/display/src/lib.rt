@@ -167,9 +167,29 @@ pub fn prepare(d: Display, text: &[u8], table: &mut [u8], message: &[u8], out: &
     Pending::Refused(answer::WRONG_SIZE, 0)
 }
 
-// One message to the display.
+// One message to the display. There is a return for each case: what the cases leave is then not joined in one place first, and the display is copied once into the result.
 pub fn step(d: Display, text: &[u8], table: &mut [u8], message: &[u8], out: &mut [u8]) -> Stepped
     ensures { λ r. ⌜ left r (now (table .exit)) (now (out .exit)) ≡ step d (now (text .entry)) (now (table .entry)) (now (message .entry)) (now (out .entry)) ⌝ }
 {
-    changes::carry_out(d, prepare(d, text, table, message, out))
+    let pending = prepare(d, text, table, message, out);
+    match pending {
+        Pending::Store(code, value) => {
+            return changes::kept(changes::stored(d, code, value), answer::DONE, 0);
+        }
+        Pending::Save => {
+            return changes::kept(changes::saved(d), answer::DONE, 0);
+        }
+        Pending::Replied(answer, length) => {
+            return changes::kept(d, answer, length);
+        }
+        Pending::Moved(kind, cursor, length) => {
+            return changes::moved(d, kind, cursor, length);
+        }
+        Pending::Written(length) => {
+            return changes::kept(changes::written(d, length), answer::DONE, 0);
+        }
+        Pending::Refused(answer, length) => {
+            return changes::kept(d, answer, length);
+        }
+    }
 }

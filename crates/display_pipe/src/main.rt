@@ -23,6 +23,17 @@ const LONGEST_PROFILE: usize = 1785;
 // The longest body of a record.
 const LONGEST_BODY: usize = 65535;
 
+// The kinds of a record.
+const START: u8 = 1;
+
+const DECLARE: u8 = 2;
+
+const MESSAGE: u8 = 3;
+
+const WRITE_PROFILE: u8 = 4;
+
+const LOAD_PROFILE: u8 = 5;
+
 // What stops the program: the end of the input, or a malformed record.
 const NONE: u8 = 0;
 
@@ -40,10 +51,9 @@ const PROFILE_BODY: u8 = 6;
 
 const WRONG_KIND: u8 = 7;
 
-// The display with the memory of its table, and whether to go on.
-struct State {
+// The display that a record leaves, and whether to go on.
+struct Obeyed {
     display: Display,
-    table: [u8; TABLE_ROOM],
     go: bool,
 }
 
@@ -115,18 +125,6 @@ fn line(s: &[u8]) {
     io::write_all(STDERR_FILENO, s);
 }
 
-fn stopped(mut s: State, fault: u8) -> State {
-    complain(fault);
-    s.go = false;
-    s
-}
-
-fn answered(mut s: State, answer: u8, reply: &[u8]) -> State {
-    let go = write_answer(answer, reply);
-    s.go = go;
-    s
-}
-
 // ---- reading
 
 // Reads so many bytes into the front of the buffer. What is wrong with them.
@@ -181,11 +179,11 @@ fn read_declare(n: usize, body: &mut [u8]) -> u8 {
 // The body of a record, into the buffer `body`. What is wrong with the record.
 fn read_body(kind: u8, n: usize, text: &mut [u8], body: &mut [u8]) -> u8 {
     match kind {
-        1 => read_start(n, text, body),
-        2 => read_declare(n, body),
-        3 => read(n, body),
-        4 => { if n == 0 { NONE } else { PROFILE_BODY } }
-        5 => read(n, body),
+        START => read_start(n, text, body),
+        DECLARE => read_declare(n, body),
+        MESSAGE => read(n, body),
+        WRITE_PROFILE => { if n == 0 { NONE } else { PROFILE_BODY } }
+        LOAD_PROFILE => read(n, body),
         _ => WRONG_KIND,
     }
 }
@@ -222,7 +220,7 @@ fn read_record(text: &mut [u8], body: &mut [u8]) -> Head {
 
 // ---- obeying
 
-fn start(mut s: State, body: &[u8], text: &[u8]) -> State {
+fn start(body: &[u8], text: &[u8]) -> Obeyed {
     let timing = Timing {
         status: octet(body, 0),
         horizontal: word(body, 1),
@@ -230,8 +228,10 @@ fn start(mut s: State, body: &[u8], text: &[u8]) -> State {
     };
     let started = display::start(timing, text, word(body, 5));
     let display = started.display;
-    s.display = display;
-    answered(s, started.answer, b"")
+    Obeyed {
+        display: display,
+        go: write_answer(started.answer, b""),
+    }
 }
 
 fn declaration(body: &[u8]) -> Declaration {
@@ -246,39 +246,23 @@ fn declaration(body: &[u8]) -> Declaration {
     }
 }
 
-fn declare(mut s: State, d: Declaration) -> State {
-    let before = s.display;
-    let declared = display::declare(before, d);
-    let after = declared.display;
-    s.display = after;
-    answered(s, declared.answer, b"")
-}
-
-// A step, and its reply.
-fn step(mut s: State, text: &[u8], message: &[u8]) -> State {
-    let before = s.display;
-    let length = s.display.capabilities.length;
-    let mut table = s.table;
-    let mut out = [0u8; OUTPUT_ROOM];
-    let stepped = display::step(
-        before,
-        front(text, wide(length)),
-        &mut table,
-        message,
-        &mut out,
-    );
-    let after = stepped.display;
-    s.display = after;
-    s.table = table;
-    answered(s, stepped.answer, front(&out, stepped.length))
+fn declare(d: Display, declaration: Declaration) -> Obeyed {
+    let declared = display::declare(d, declaration);
+    let display = declared.display;
+    Obeyed {
+        display: display,
+        go: write_answer(declared.answer, b""),
+    }
 }
 
 // The settings profile goes back as the reply.
-fn write_profile(s: State) -> State {
+fn write_profile(d: Display) -> Obeyed {
     let mut out = [0u8; LONGEST_PROFILE];
-    let settings = s.display.settings;
-    let written = profile::write(settings, &mut out);
-    answered(s, written.answer, front(&out, written.length))
+    let written = profile::write(d.settings, &mut out);
+    Obeyed {
+        display: d,
+        go: write_answer(written.answer, front(&out, written.length)),
+    }
 }
 
 // A refused profile gets its place back, in two bytes.
@@ -290,57 +274,57 @@ fn write_loaded(answer: u8, position: usize) -> bool {
     write_answer(answer, &place)
 }
 
-fn load_profile(mut s: State, bytes: &[u8]) -> State {
-    let mut d = s.display;
-    let before = d.settings;
-    let loaded = profile::load(before, bytes);
+fn load_profile(mut d: Display, bytes: &[u8]) -> Obeyed {
+    let loaded = profile::load(d.settings, bytes);
     let settings = loaded.settings;
     d.settings = settings;
-    s.display = d;
-    let go = write_loaded(loaded.answer, loaded.position.0);
-    s.go = go;
-    s
+    Obeyed {
+        display: d,
+        go: write_loaded(loaded.answer, loaded.position.0),
+    }
 }
 
-fn obey(s: State, kind: u8, n: usize, text: &[u8], body: &[u8]) -> State {
+// A record that is no message.
+fn obey(d: Display, kind: u8, n: usize, text: &[u8], body: &[u8]) -> Obeyed {
     match kind {
-        1 => start(s, body, front(text, text_length(n))),
-        2 => declare(s, declaration(body)),
-        3 => step(s, text, front(body, n)),
-        4 => write_profile(s),
-        _ => load_profile(s, front(body, n)),
+        START => start(body, front(text, text_length(n))),
+        DECLARE => declare(d, declaration(body)),
+        WRITE_PROFILE => write_profile(d),
+        _ => load_profile(d, front(body, n)),
     }
 }
 
-// One record.
-fn turn(s: State, text: &mut [u8], body: &mut [u8]) -> State {
-    let h = read_record(text, body);
-    if h.fault != NONE {
-        return stopped(s, h.fault);
-    }
-    obey(s, h.kind, h.length, text, body)
-}
-
+// Answers records until the input ends, one is malformed or nobody takes the answers. A message is obeyed here, where the display is kept: handed through other functions it would be copied for each.
 // Nothing says that the input ends, so the records are counted down from a number that no run uses up.
-fn serve(mut s: State, text: &mut [u8], body: &mut [u8]) {
-    let mut left = u64::MAX;
-    while left > 0 {
-        let next = turn(s, text, body);
-        s = next;
-        if !s.go {
-            return;
-        }
-        left -= 1;
-    }
-}
-
 fn main() {
+    let mut d = display::empty();
+    let mut table = [0u8; TABLE_ROOM];
     let mut text = [0u8; LONGEST_BODY];
     let mut body = [0u8; LONGEST_BODY];
-    let s = State {
-        display: display::empty(),
-        table: [0u8; TABLE_ROOM],
-        go: true,
-    };
-    serve(s, &mut text, &mut body);
+    let mut out = [0u8; OUTPUT_ROOM];
+    let mut left = u64::MAX;
+    while left > 0 {
+        left -= 1;
+        let h = read_record(&mut text, &mut body);
+        if h.fault != NONE {
+            complain(h.fault);
+            return;
+        }
+        if h.kind == MESSAGE {
+            let whole = front(&text, wide(d.capabilities.length));
+            let stepped = display::step(d, whole, &mut table, front(&body, h.length), &mut out);
+            let after = stepped.display;
+            d = after;
+            if !write_answer(stepped.answer, front(&out, stepped.length)) {
+                return;
+            }
+        } else {
+            let obeyed = obey(d, h.kind, h.length, &text, &body);
+            let after = obeyed.display;
+            d = after;
+            if !obeyed.go {
+                return;
+            }
+        }
+    }
 }

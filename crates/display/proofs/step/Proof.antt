@@ -1,4 +1,6 @@
--- `display::step` meets its contract. What is prepared is carried out.
+-- `display::step` meets its contract. What is pending is carried out, case by case, as `stepped` says.
+use Rattle.display.specs.Changes.{stepped}
+use Rattle.display.proofs.Laws.{left-from}
 use borrow.Author.Needs.{needs}
 use Rattle.display.proofs.step.Statement.{statement}
 use Rattle.display.proofs.step.Tie as tie
@@ -6,8 +8,14 @@ use Rattle.display.proofs.step.Tie as tie
 prepare-requires : tie.Need-prepare-requires
 prepare-requires c κs = search needs
 
-carry-out-requires : tie.Need-carry-out-requires
-carry-out-requires c κs = search needs
+enum-known-pending : tie.Need-enum-known-pending
+enum-known-pending c = search needs
+
+stored-requires : tie.Need-stored-requires
+stored-requires c κs = search needs
+
+kept-requires : tie.Need-kept-requires
+kept-requires c κs = search needs
 
 same-length : tie.Need-same-length
 same-length c = search needs
@@ -16,8 +24,136 @@ same-length-2 : tie.Need-same-length-2
 same-length-2 c = search needs
 
 returns : tie.Need-returns
-returns c = rw (c .carry-out .ensures) (c .before .before .before .before .before .prepare .ensures)
+returns c =
+    let p = c .before .before .before .before .before .before .before .before .before .prepare in
+    left-from (stepped (c .before .before .before .before .before .before .before .before .before .before .before .before .before .before .before .before .args .d) (p .result)) _ _ _ (p .ensures) (rw (c .before .before .before .pending .given .1, c .kept .ensures, c .before .stored .ensures))
+
+enum-told : tie.Need-enum-told
+enum-told c = search needs
+
+saved-requires : tie.Need-saved-requires
+saved-requires c κs = search needs
+
+kept-requires-2 : tie.Need-kept-requires-2
+kept-requires-2 c κs = search needs
+
+same-length-3 : tie.Need-same-length-3
+same-length-3 c = search needs
+
+same-length-4 : tie.Need-same-length-4
+same-length-4 c = search needs
+
+returns-2 : tie.Need-returns-2
+returns-2 c =
+    let p = c .before .before .before .before .before .before .before .before .prepare in
+    left-from (stepped (c .before .before .before .before .before .before .before .before .before .before .before .before .before .before .before .args .d) (p .result)) _ _ _ (p .ensures) (rw (c .before .before .enum-told .given .1, c .kept2 .ensures, c .before .saved .ensures))
+
+enum-known-pending-2 : tie.Need-enum-known-pending-2
+enum-known-pending-2 c = search needs
+
+kept-requires-3 : tie.Need-kept-requires-3
+kept-requires-3 c κs = search needs
+
+same-length-5 : tie.Need-same-length-5
+same-length-5 c = search needs
+
+same-length-6 : tie.Need-same-length-6
+same-length-6 c = search needs
+
+returns-3 : tie.Need-returns-3
+returns-3 c =
+    let p = c .before .before .before .before .before .before .before .before .prepare in
+    left-from (stepped (c .before .before .before .before .before .before .before .before .before .before .before .before .before .before .before .args .d) (p .result)) _ _ _ (p .ensures) (rw (c .before .before .pending2 .given .1, c .kept3 .ensures))
+
+enum-known-pending-3 : tie.Need-enum-known-pending-3
+enum-known-pending-3 c = search needs
+
+moved-requires : tie.Need-moved-requires
+moved-requires c κs = search needs
+
+same-length-7 : tie.Need-same-length-7
+same-length-7 c = search needs
+
+same-length-8 : tie.Need-same-length-8
+same-length-8 c = search needs
+
+returns-4 : tie.Need-returns-4
+returns-4 c =
+    let p = c .before .before .before .before .before .before .before .before .prepare in
+    left-from (stepped (c .before .before .before .before .before .before .before .before .before .before .before .before .before .before .before .args .d) (p .result)) _ _ _ (p .ensures) (rw (c .before .before .pending3 .given .1, c .moved .ensures))
+
+enum-known-pending-4 : tie.Need-enum-known-pending-4
+enum-known-pending-4 c = search needs
+
+written-requires : tie.Need-written-requires
+written-requires c κs = search needs
+
+kept-requires-4 : tie.Need-kept-requires-4
+kept-requires-4 c κs = search needs
+
+same-length-9 : tie.Need-same-length-9
+same-length-9 c = search needs
+
+same-length-10 : tie.Need-same-length-10
+same-length-10 c = search needs
+
+returns-5 : tie.Need-returns-5
+returns-5 c =
+    let p = c .before .before .before .before .before .before .before .before .before .prepare in
+    left-from (stepped (c .before .before .before .before .before .before .before .before .before .before .before .before .before .before .before .before .args .d) (p .result)) _ _ _ (p .ensures) (rw (c .before .before .before .pending4 .given .1, c .kept4 .ensures, c .before .written .ensures))
+
+enum-known-pending-5 : tie.Need-enum-known-pending-5
+enum-known-pending-5 c = search needs
+
+kept-requires-5 : tie.Need-kept-requires-5
+kept-requires-5 c κs = search needs
+
+same-length-11 : tie.Need-same-length-11
+same-length-11 c = search needs
+
+same-length-12 : tie.Need-same-length-12
+same-length-12 c = search needs
+
+returns-6 : tie.Need-returns-6
+returns-6 c =
+    let p = c .before .before .before .before .before .before .before .before .prepare in
+    left-from (stepped (c .before .before .before .before .before .before .before .before .before .before .before .before .before .before .before .args .d) (p .result)) _ _ _ (p .ensures) (rw (c .before .before .pending5 .given .1, c .kept5 .ensures))
 
 pub step-spec : {M : Type 1} → statement M
 step-spec =
-    tie.close (tie.spec prepare-requires carry-out-requires same-length same-length-2 returns)
+    tie.close
+    (tie.spec
+    prepare-requires
+    enum-known-pending
+    stored-requires
+    kept-requires
+    same-length
+    same-length-2
+    returns
+    enum-told
+    saved-requires
+    kept-requires-2
+    same-length-3
+    same-length-4
+    returns-2
+    enum-known-pending-2
+    kept-requires-3
+    same-length-5
+    same-length-6
+    returns-3
+    enum-known-pending-3
+    moved-requires
+    same-length-7
+    same-length-8
+    returns-4
+    enum-known-pending-4
+    written-requires
+    kept-requires-4
+    same-length-9
+    same-length-10
+    returns-5
+    enum-known-pending-5
+    kept-requires-5
+    same-length-11
+    same-length-12
+    returns-6)

@@ -1,14 +1,39 @@
-//! What the tests share: how long they run, and one spelling of both implementations' messages.
+//! What the tests share: how long they run, what C programs they compile, and one spelling of both implementations' messages.
 #![allow(dead_code)]
 use ddcci::{Refusal, Reply, Request};
 use oracle::message as slow;
 use std::path::{Path, PathBuf};
+use std::process::Command;
 
 /// A program that `rt check` has built.
 pub fn program(name: &str) -> PathBuf {
     let path = Path::new(env!("CARGO_MANIFEST_DIR")).join("../../target/bin").join(name);
     assert!(path.exists(), "{} is missing: run `rt check {name}` in the repository first", path.display());
     path
+}
+
+/// A C file of the repository, `c/NAME.c`, compiled with the headers and what else is named: another file of the repository, or an option.
+pub fn compiled(name: &str, more: &[&str]) -> PathBuf {
+    let root = Path::new(env!("CARGO_MANIFEST_DIR")).join("../..");
+    let made = Path::new(env!("CARGO_TARGET_TMPDIR")).join(name);
+    let status = Command::new("cc")
+        .current_dir(&root)
+        .args(["-std=c11", "-Wall", "-Wextra", "-Werror", "-O2", "-Iinclude"])
+        .arg(format!("c/{name}.c"))
+        .args(more)
+        .arg("-o")
+        .arg(&made)
+        .status()
+        .expect("a C compiler, `cc`, is installed");
+    assert!(status.success());
+    made
+}
+
+/// What a C program writes, compiled in that way.
+pub fn written_by(name: &str, more: &[&str]) -> String {
+    let output = Command::new(compiled(name, more)).output().expect("the program runs");
+    assert!(output.status.success());
+    String::from_utf8(output.stdout).expect("it writes text")
 }
 
 /// How many times a random test runs: `rounds(n)` is n, or n times the number in `PANEKNOLL_LONGER`.

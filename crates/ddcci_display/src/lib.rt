@@ -6,7 +6,7 @@ ghost use Rattle.display_rules.specs.State.{start, declare, withCursor};
 ghost use Rattle.display_rules.specs.Step.{step};
 ghost use Rattle.profile_rules.specs.Profile.{writeProfile, loadProfile};
 ghost use Rattle.display_rules.specs.declared.Found.the-variants.{Nothing, Fragment};
-ghost use Rattle.ddcci_display.specs.Numbers.{textNumber, numbers, Steps, loadedNumbers};
+ghost use Rattle.ddcci_display.specs.Numbers.{textNumber, numbers, inNumbers, loadedNumbers};
 use display::changes;
 use display::changes::Pending;
 use display_rules::Changed;
@@ -101,7 +101,7 @@ fn moved(d: Display, kind: TextKind, cursor: FragmentCursor, length: usize) -> D
     }
 }
 
-// One message to the display. What is pending is carried out here and not by `changes::carry_out`, with a return for each case: the display is then copied once in each.
+// One message to the display. As in `display::step` there is a return for each case; what that returns is not taken over from there, since the display would be copied once more.
 #[no_mangle]
 pub extern "C" fn ddcci_display_step(
     d: Display,
@@ -110,7 +110,7 @@ pub extern "C" fn ddcci_display_step(
     message: &[u8],
     out: &mut [u8],
 ) -> DisplayStepped
-    ensures { λ r. ⌜ Steps (step d (now (text .entry)) (now (table .entry)) (now (message .entry)) (now (out .entry))) r (now (table .exit)) (now (out .exit)) ⌝ }
+    ensures { λ r. ⌜ record { stepped = r; table = now (table .exit); out = now (out .exit) } ≡ inNumbers (step d (now (text .entry)) (now (table .entry)) (now (message .entry)) (now (out .entry))) ⌝ }
 {
     let pending = display::prepare(d, text, table, message, out);
     match pending {

@@ -17,12 +17,10 @@ use Rattle.settings.specs.Settings.{withPresent, setAnswer, judgeSet, setCode}
 use Rattle.settings.proofs.Answers.{both}
 use Rattle.display_rules.specs.State.{withSettings}
 use Rattle.display_rules.specs.Turn.{accepted, refusal, noReply, setTurn}
-use Rattle.display_rules.specs.Step.{Outcome, left}
 use Rattle.display_rules.specs.Fragments.{lesser, nextCursor, foundBytes}
 use Rattle.message_rules.specs.declared.TextKind.{TextKind}
 use Rattle.display_rules.specs.declared.Display.{Display}
 use Rattle.display_rules.specs.declared.TextState.{TextState}
-use Rattle.display_rules.specs.declared.Stepped.{Stepped}
 use Rattle.display_rules.specs.declared.Found.the-variants.{Fragment}
 use Rattle.display_rules.proofs.Tests.{lesser-left, lesser-right}
 use Rattle.display.specs.Send.{builtLength, Sent}
@@ -92,7 +90,3 @@ pub set-kept : (d : Display) (table : List ℕ) (c value : ℕ) → judgeSet (d 
     → setTurn d table c value ≡ refusal (judgeSet (d .settings) c value .answer) d table noReply
 unfolding setTurn setCode judgeSet
 set-kept d table c value e = rw e
-
--- what a step leaves, where its result is known
-pub left-from : {o : Outcome} (s : Stepped) (t b : List ℕ) (r : Stepped) → left s t b ≡ o → r ≡ s → left r t b ≡ o
-left-from s t b r e q = ap (λ (x : Stepped). left x t b) q ∙ e

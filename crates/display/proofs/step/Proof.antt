@@ -1,6 +1,4 @@
 -- `display::step` meets its contract. What is pending is carried out, case by case, as `stepped` says.
-use Rattle.display.specs.Changes.{stepped}
-use Rattle.display.proofs.Laws.{left-from}
 use borrow.Author.Needs.{needs}
 use Rattle.display.proofs.step.Statement.{statement}
 use Rattle.display.proofs.step.Tie as tie
@@ -24,9 +22,7 @@ same-length-2 : tie.Need-same-length-2
 same-length-2 c = search needs
 
 returns : tie.Need-returns
-returns c =
-    let p = c .before .before .before .before .before .before .before .before .before .prepare in
-    left-from (stepped (c .before .before .before .before .before .before .before .before .before .before .before .before .before .before .before .before .args .d) (p .result)) _ _ _ (p .ensures) (rw (c .before .before .before .pending .given .1, c .kept .ensures, c .before .stored .ensures))
+returns c = rw (c .kept .ensures, c .before .stored .ensures) (rw (c .before .before .before .pending .given .1) at (c .before .before .before .before .before .before .before .before .before .prepare .ensures))
 
 enum-told : tie.Need-enum-told
 enum-told c = search needs
@@ -44,9 +40,7 @@ same-length-4 : tie.Need-same-length-4
 same-length-4 c = search needs
 
 returns-2 : tie.Need-returns-2
-returns-2 c =
-    let p = c .before .before .before .before .before .before .before .before .prepare in
-    left-from (stepped (c .before .before .before .before .before .before .before .before .before .before .before .before .before .before .before .args .d) (p .result)) _ _ _ (p .ensures) (rw (c .before .before .enum-told .given .1, c .kept2 .ensures, c .before .saved .ensures))
+returns-2 c = rw (c .kept2 .ensures, c .before .saved .ensures) (rw (c .before .before .enum-told .given .1) at (c .before .before .before .before .before .before .before .before .prepare .ensures))
 
 enum-known-pending-2 : tie.Need-enum-known-pending-2
 enum-known-pending-2 c = search needs
@@ -61,9 +55,7 @@ same-length-6 : tie.Need-same-length-6
 same-length-6 c = search needs
 
 returns-3 : tie.Need-returns-3
-returns-3 c =
-    let p = c .before .before .before .before .before .before .before .before .prepare in
-    left-from (stepped (c .before .before .before .before .before .before .before .before .before .before .before .before .before .before .before .args .d) (p .result)) _ _ _ (p .ensures) (rw (c .before .before .pending2 .given .1, c .kept3 .ensures))
+returns-3 c = rw (c .kept3 .ensures) (rw (c .before .before .pending2 .given .1) at (c .before .before .before .before .before .before .before .before .prepare .ensures))
 
 enum-known-pending-3 : tie.Need-enum-known-pending-3
 enum-known-pending-3 c = search needs
@@ -78,9 +70,7 @@ same-length-8 : tie.Need-same-length-8
 same-length-8 c = search needs
 
 returns-4 : tie.Need-returns-4
-returns-4 c =
-    let p = c .before .before .before .before .before .before .before .before .prepare in
-    left-from (stepped (c .before .before .before .before .before .before .before .before .before .before .before .before .before .before .before .args .d) (p .result)) _ _ _ (p .ensures) (rw (c .before .before .pending3 .given .1, c .moved .ensures))
+returns-4 c = rw (c .moved .ensures) (rw (c .before .before .pending3 .given .1) at (c .before .before .before .before .before .before .before .before .prepare .ensures))
 
 enum-known-pending-4 : tie.Need-enum-known-pending-4
 enum-known-pending-4 c = search needs
@@ -98,9 +88,7 @@ same-length-10 : tie.Need-same-length-10
 same-length-10 c = search needs
 
 returns-5 : tie.Need-returns-5
-returns-5 c =
-    let p = c .before .before .before .before .before .before .before .before .before .prepare in
-    left-from (stepped (c .before .before .before .before .before .before .before .before .before .before .before .before .before .before .before .before .args .d) (p .result)) _ _ _ (p .ensures) (rw (c .before .before .before .pending4 .given .1, c .kept4 .ensures, c .before .written .ensures))
+returns-5 c = rw (c .kept4 .ensures, c .before .written .ensures) (rw (c .before .before .before .pending4 .given .1) at (c .before .before .before .before .before .before .before .before .before .prepare .ensures))
 
 enum-known-pending-5 : tie.Need-enum-known-pending-5
 enum-known-pending-5 c = search needs
@@ -115,9 +103,7 @@ same-length-12 : tie.Need-same-length-12
 same-length-12 c = search needs
 
 returns-6 : tie.Need-returns-6
-returns-6 c =
-    let p = c .before .before .before .before .before .before .before .before .prepare in
-    left-from (stepped (c .before .before .before .before .before .before .before .before .before .before .before .before .before .before .before .args .d) (p .result)) _ _ _ (p .ensures) (rw (c .before .before .pending5 .given .1, c .kept5 .ensures))
+returns-6 c = rw (c .kept5 .ensures) (rw (c .before .before .pending5 .given .1) at (c .before .before .before .before .before .before .before .before .prepare .ensures))
 
 pub step-spec : {M : Type 1} → statement M
 step-spec =

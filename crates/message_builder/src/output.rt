@@ -54,3 +54,14 @@ pub(crate) fn refuse(out: &[u8]) -> Built
     }
     Built::Refused(answer::WRONG_FIELD)
 }
+
+// Builds the message of a head alone, or refuses it where one of its fields is not allowed.
+pub(crate) fn build_if(allowed: bool, seed: u8, head: &[u8], out: &mut [u8]) -> Built
+    requires { ⌜ length (now head) < 38 ⌝ }
+    ensures { λ r. ⌜ Builds allowed (closed seed (now (head .entry))) (now (out .entry)) (now (out .exit)) r ⌝ }
+{
+    if allowed {
+        return build(seed, head, b"", out);
+    }
+    refuse(out)
+}

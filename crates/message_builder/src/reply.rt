@@ -25,22 +25,19 @@ pub fn build_value(
 ) -> Built
     ensures { λ r. ⌜ BuildsMessage replies a (value result code kind max present) (now (out .entry)) (now (out .exit)) r ⌝ }
 {
-    if value_allowed(result, kind) {
-        let head = [
-            a.first,
-            0x88,
-            0x02,
-            result,
-            code,
-            kind,
-            output::high(max),
-            output::low(max),
-            output::high(present),
-            output::low(present),
-        ];
-        return output::build(a.seed, &head, b"", out);
-    }
-    output::refuse(out)
+    let head = [
+        a.first,
+        0x88,
+        0x02,
+        result,
+        code,
+        kind,
+        output::high(max),
+        output::low(max),
+        output::high(present),
+        output::low(present),
+    ];
+    output::build_if(value_allowed(result, kind), a.seed, &head, out)
 }
 
 pub fn build_timing_reply(
@@ -52,20 +49,17 @@ pub fn build_timing_reply(
 ) -> Built
     ensures { λ r. ⌜ BuildsMessage replies a (timingReply status horizontal vertical) (now (out .entry)) (now (out .exit)) r ⌝ }
 {
-    if status_allowed(status) {
-        let head = [
-            a.first,
-            0x06,
-            0x4E,
-            status,
-            output::high(horizontal),
-            output::low(horizontal),
-            output::high(vertical),
-            output::low(vertical),
-        ];
-        return output::build(a.seed, &head, b"", out);
-    }
-    output::refuse(out)
+    let head = [
+        a.first,
+        0x06,
+        0x4E,
+        status,
+        output::high(horizontal),
+        output::low(horizontal),
+        output::high(vertical),
+        output::low(vertical),
+    ];
+    output::build_if(status_allowed(status), a.seed, &head, out)
 }
 
 pub fn build_text_fragment(a: Address, offset: TextOffset, data: &[u8], out: &mut [u8]) -> Built

@@ -1,14 +1,10 @@
--- `message_builder::reply::build_timing_reply` meets its contract: 7 for a field that the paper does not allow.
+-- `message_builder::reply::build_timing_reply` meets its contract.
 -- Assumes nothing.
-use mathlib.Core.Path.{sym, _∙_}
 use Rattle.message_rules.specs.Frame.{plain, frame}
-use Rattle.message_builder.proofs.Outputs.{builds-refused, builds-as}
+use Rattle.message_builder.proofs.Outputs.{builds-as}
 use borrow.Author.Needs.{needs}
 use Rattle.message_builder.proofs.reply.build_timing_reply.Statement.{statement}
 use Rattle.message_builder.proofs.reply.build_timing_reply.Tie as tie
-
-status-allowed-requires : tie.Need-status-allowed-requires
-status-allowed-requires c κs = search needs
 
 high-requires : tie.Need-high-requires
 high-requires c κs = search needs
@@ -22,14 +18,14 @@ high-requires-2 c κs = search needs
 low-requires-2 : tie.Need-low-requires-2
 low-requires-2 c κs = search needs
 
-slice-aggregate-build : tie.Need-slice-aggregate-build
-slice-aggregate-build c = search needs
+status-allowed-requires : tie.Need-status-allowed-requires
+status-allowed-requires c κs = search needs
 
-slice-aggregate-build-2 : tie.Need-slice-aggregate-build-2
-slice-aggregate-build-2 c = search needs
+slice-aggregate-build-if : tie.Need-slice-aggregate-build-if
+slice-aggregate-build-if c = search needs
 
-build-requires : tie.Need-build-requires
-build-requires c κs = search needs
+build-if-requires : tie.Need-build-if-requires
+build-if-requires c κs = search needs
 
 same-length : tie.Need-same-length
 same-length c = search needs
@@ -37,32 +33,19 @@ same-length c = search needs
 returns : tie.Need-returns
 unfolding frame plain
 returns c =
-    builds-as (sym (c .before .before .before .before .before .before .before .before .before .before .if1 .taken) ∙ c .before .before .before .before .before .before .before .before .before .before .before .status-allowed .ensures)
-    (rw (c .before .before .before .before .before .before .before .before .before .high .ensures, c .before .before .before .before .before .before .before .before .low .ensures, c .before .before .before .before .before .before .before .high2 .ensures, c .before .before .before .before .before .before .low2 .ensures)) (c .before .before .build .ensures)
-
-refuse-requires : tie.Need-refuse-requires
-refuse-requires c κs = search needs
-
-same-length-2 : tie.Need-same-length-2
-same-length-2 c = search needs
-
-returns-2 : tie.Need-returns-2
-returns-2 c = builds-refused _ _ (c .before .before .before .before .before .args .out .now) (sym (c .before .before .before .status-allowed .ensures) ∙ c .before .before .if1 .left) (c .refuse .result) (c .refuse .ensures)
+    builds-as (c .before .before .before .before .before .status-allowed .ensures)
+    (rw (c .before .before .before .before .before .before .before .before .before .high .ensures, c .before .before .before .before .before .before .before .before .low .ensures, c .before .before .before .before .before .before .before .high2 .ensures, c .before .before .before .before .before .before .low2 .ensures)) (c .before .before .build-if .ensures)
 
 pub build-timing-reply-spec : {M : Type 1} → statement M
 build-timing-reply-spec =
     tie.close
     (tie.spec
-    status-allowed-requires
     high-requires
     low-requires
     high-requires-2
     low-requires-2
-    slice-aggregate-build
-    slice-aggregate-build-2
-    build-requires
+    status-allowed-requires
+    slice-aggregate-build-if
+    build-if-requires
     same-length
-    returns
-    refuse-requires
-    same-length-2
-    returns-2)
+    returns)

@@ -1,4 +1,5 @@
 -- `contains` reads the bit of its code.
+use mathlib.Core.Path.{refl}
 use borrow.Author.Needs.{needs}
 use Rattle.codes.specs.Codes.{bit, member}
 use Rattle.codes.proofs.contains.Statement.{statement}
@@ -21,7 +22,7 @@ shr-result c = search needs
 
 returns : tie.Need-returns
 unfolding member bit
-returns c = search needs
+returns c = refl
 
 pub contains-spec : {M : Type 1} → statement M
 contains-spec =

@@ -16,15 +16,16 @@ use Rattle.message_rules.specs.declared.Address.{Address}
 use Rattle.message_rules.specs.declared.Direction.{Direction}
 use Rattle.message_rules.specs.Read.{Read, ok, refused, unless, require, after, andThen}
 use Rattle.message_rules.specs.Row.{Kind, Row, Known, Unknown}
-use Rattle.message_rules.specs.Layout.{layoutOf, least, longest, rule, rowOf}
+use Rattle.message_rules.specs.Layout.{layoutOf, longest, rule, rowOf}
 use Rattle.message_rules.specs.Body.{Body, split, lengthAllowed, byRow, decodeBody, emptyAnswer}
 use Rattle.message_rules.specs.Frame.{plainRow, plain, lengthByte, fits, bodyLength, bodyOf, agrees, frameAnswer}
 use Rattle.message_rules.specs.Message.{Reading, asMessage, bodyRead, decode}
 use Rattle.message_rules.proofs.Frames.{fits-inside}
 use Rattle.message_rules.proofs.Tests.{and-true, cond-zero}
 use Rattle.message_reader.specs.declared.table.Shape.{Shape}
-use Rattle.message_reader.specs.Table.{shapeOf}
-use Rattle.message_reader.specs.Parts.{headAnswer, tailAnswer, lengthRight, bodyIn}
+use Rattle.message_reader.specs.Table.{shapeOf, lengthRight}
+use Rattle.message_reader.specs.Parts.{headAnswer, tailAnswer, bodyIn}
+use Rattle.message_reader.specs.Outcome.{Readable}
 
 -- ---- each part, as the code comes to it
 
@@ -198,21 +199,21 @@ module _ {M : Type 0} (t : Reading M) (a : Address) (s : List ℕ) where
         length-behind : length behind ≡ bodyLength s - 1
         length-behind = let h = framed (t .direction) a s e .inside in simp (length-take, length-drop) (omega arith)
 
-        decode-known : decode t a s ≡ cond (lengthRight (shapeOf (layoutOf c)) s) (bodyIn t c s) (refused 7)
+        decode-known : decode t a s ≡ cond (lengthRight (shapeOf (layoutOf c)) (bodyLength s - 1)) (bodyIn t c s) (refused 7)
         unfolding byRow
         decode-known =
             decode-row (Known c (layoutOf c)) q
             ∙ ap (λ (n : ℕ). andThen (require (lengthAllowed (layoutOf c) n && rule c (take (layoutOf c .bytes) behind)) 7 (ok (split c (layoutOf c) behind))) (asMessage t)) length-behind
             ∙ by-length (lengthAllowed (layoutOf c) (bodyLength s - 1)) (rule c (take (layoutOf c .bytes) behind)) (split c (layoutOf c) behind)
 
-        pub decode-length : lengthRight (shapeOf (layoutOf c)) s ≡ false → decode t a s ≡ refused 7
+        pub decode-length : lengthRight (shapeOf (layoutOf c)) (bodyLength s - 1) ≡ false → decode t a s ≡ refused 7
         decode-length w = decode-known ∙ ap (λ (b : Bool). cond b (bodyIn t c s) (refused 7)) w
 
-        pub decode-body : lengthRight (shapeOf (layoutOf c)) s ≡ true → decode t a s ≡ bodyIn t c s
+        pub decode-body : lengthRight (shapeOf (layoutOf c)) (bodyLength s - 1) ≡ true → decode t a s ≡ bodyIn t c s
         decode-body w = decode-known ∙ ap (λ (b : Bool). cond b (bodyIn t c s) (refused 7)) w
 
         -- all that reading the fields asks for
-        pub readable : lengthRight (shapeOf (layoutOf c)) s ≡ true → (1 < length s) × (bodyLength s + 3 ≤ length s) × (0 < bodyLength s) × (least (layoutOf c) ≤ bodyLength s - 1)
+        pub readable : lengthRight (shapeOf (layoutOf c)) (bodyLength s - 1) ≡ true → Readable c s
         readable w =
             let l = framed (t .direction) a s e in
             let h : Shape = shapeOf (layoutOf c) in

@@ -7,15 +7,17 @@ use Rattle.message_rules.specs.Read.{Read, ok, refused}
 use Rattle.message_rules.specs.Row as row
 use Rattle.message_rules.specs.Layout.{layoutOf, least}
 use Rattle.message_rules.specs.Frame.{bodyLength}
-use Rattle.message_rules.specs.Message.{decode, replies, Request, get, set, timing, save, text, tableRead, tableWrite, Reply, value, timingReply, textFragment, tableFragment}
+use Rattle.message_rules.specs.Message.{decode, requests, replies, Request, get, set, timing, save, text, tableRead, tableWrite, Reply, value, timingReply, textFragment, tableFragment}
 use Rattle.message_rules.specs.declared.Address.{Address}
 use Rattle.message_rules.specs.declared.Position.{Position}
 use Rattle.message_reader.specs.declared.RequestRead.{RequestRead}
 use Rattle.message_reader.specs.declared.RequestRead.the-variants as requestRead
 use Rattle.message_reader.specs.declared.ReplyRead.{ReplyRead}
 use Rattle.message_reader.specs.declared.ReplyRead.the-variants as replyRead
-use Rattle.message_reader.specs.declared.reply.ReplyJudged.{ReplyJudged}
-use Rattle.message_reader.specs.declared.reply.ReplyJudged.the-variants as judged
+use Rattle.message_reader.specs.declared.table.RequestJudged.{RequestJudged}
+use Rattle.message_reader.specs.declared.table.RequestJudged.the-variants as requestJudged
+use Rattle.message_reader.specs.declared.table.ReplyJudged.{ReplyJudged}
+use Rattle.message_reader.specs.declared.table.ReplyJudged.the-variants as replyJudged
 use Rattle.message_reader.specs.Parts.{bodyIn}
 
 -- the n bytes from a position of the slice on
@@ -76,8 +78,15 @@ RequestMeans = Meaning requestIn RequestInside
 abbrev pub ReplyMeans : List ℕ → ReplyRead → Read Reply → Type 0
 ReplyMeans = Meaning replyIn ReplyInside
 
--- the tests of a reply, but those of its fields, refuse it, or leave a body of a known kind with all its fields to be read
+-- a body of this kind stands in the slice, with all its fields
+abbrev pub Readable : row.Kind → List ℕ → Type 0
+Readable c s = (1 < length s) × (bodyLength s + 3 ≤ length s) × (0 < bodyLength s) × (least (layoutOf c) ≤ bodyLength s - 1)
+
+-- the tests of a message, but those of its fields, refuse it, or leave a body of a known kind to be read
+abbrev pub RequestJudges : Address → List ℕ → RequestJudged → Type 0
+RequestJudges a s (requestJudged.Known c) = Readable (row.Request c) s × (decode requests a s ≡ bodyIn requests (row.Request c) s)
+RequestJudges a s (requestJudged.Refused k) = decode requests a s ≡ refused k
+
 abbrev pub ReplyJudges : Address → List ℕ → ReplyJudged → Type 0
-ReplyJudges a s (judged.Known c) =
-    ((1 < length s) × (bodyLength s + 3 ≤ length s) × (0 < bodyLength s) × (least (layoutOf (row.Reply c)) ≤ bodyLength s - 1)) × (decode replies a s ≡ bodyIn replies (row.Reply c) s)
-ReplyJudges a s (judged.Refused k) = decode replies a s ≡ refused k
+ReplyJudges a s (replyJudged.Known c) = Readable (row.Reply c) s × (decode replies a s ≡ bodyIn replies (row.Reply c) s)
+ReplyJudges a s (replyJudged.Refused k) = decode replies a s ≡ refused k

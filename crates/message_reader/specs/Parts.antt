@@ -1,4 +1,4 @@
--- The ordered tests of a message in the parts that the code takes them: before the command number is looked at, the frame's rest, the body's length.
+-- The ordered tests of a message in the parts that the code takes them: before the command number is looked at, the frame's rest, the body's fields.
 use Prim.Native.Nat.{ℕ, _+_, _-_}
 use mathlib.Core.Bool.{Bool, _&&_}
 use mathlib.Core.List.{List}
@@ -14,7 +14,6 @@ use Rattle.message_rules.specs.Frame.{bodyLength, fits, lengthByte}
 use Rattle.message_rules.specs.Layout.{layoutOf, longest, rule}
 use Rattle.message_rules.specs.declared.Address.{Address}
 use Rattle.message_rules.specs.declared.Direction.{Direction}
-use Rattle.message_reader.specs.declared.table.Shape.{Shape}
 
 -- 2, 3, then 4 for a slice that does not agree with its length byte
 unfoldable pub headAnswer : Direction → Address → List ℕ → ℕ
@@ -28,10 +27,6 @@ unfoldable pub tailAnswer : Address → Bool → List ℕ → ℕ
 tailAnswer a plain s =
     unless (eqb (getD s 1 0) (lengthByte plain (bodyLength s))) wrongLength
     (unless (eqb (xorAll (a .seed) (take (bodyLength s + 3) s)) 0) wrongChecksum done)
-
--- whether a body's length is right for its shape
-abbrev pub lengthRight : Shape → List ℕ → Bool
-lengthRight h s = leb (h .0) (bodyLength s - 1) && leb (bodyLength s - 1) (h .0 + h .1)
 
 abbrev fieldsIn : {M : Type 0} → Reading M → Kind → List ℕ → Read M
 fieldsIn t c f = andThen (require (rule c (take (layoutOf c .bytes) f)) wrongField (ok (split c (layoutOf c) f))) (asMessage t)

@@ -1,22 +1,38 @@
--- The rows of the table as the code has them: a kind, and the shape of the bytes behind the command number.
+-- The table as the code goes through it: a command number and the length behind it give a kind, or 7 for a wrong length and 6 for a number that is not listed.
+use Prim.Native.Nat.{ℕ, _+_}
+use mathlib.Core.Bool.{Bool, cond, _&&_}
+use lib.Dec.{leb}
+use Rattle.message_rules.specs.Answer.{unknownCommand, wrongField}
 use Rattle.message_rules.specs.Row.{Layout, Row, Known, Unknown}
 use Rattle.message_rules.specs.Row as kind
 use Rattle.message_rules.specs.Layout.{least}
+use Rattle.message_rules.specs.declared.RequestKind.{RequestKind}
+use Rattle.message_rules.specs.declared.ReplyKind.{ReplyKind}
 use Rattle.message_reader.specs.declared.table.Shape.{Shape}
-use Rattle.message_reader.specs.declared.table.RequestRow.{RequestRow}
-use Rattle.message_reader.specs.declared.table.RequestRow.the-variants as request
-use Rattle.message_reader.specs.declared.table.ReplyRow.{ReplyRow}
-use Rattle.message_reader.specs.declared.table.ReplyRow.the-variants as reply
+use Rattle.message_reader.specs.declared.table.RequestJudged.{RequestJudged}
+use Rattle.message_reader.specs.declared.table.RequestJudged.the-variants as request
+use Rattle.message_reader.specs.declared.table.ReplyJudged.{ReplyJudged}
+use Rattle.message_reader.specs.declared.table.ReplyJudged.the-variants as reply
 
 abbrev pub shapeOf : Layout → Shape
 shapeOf l = record { 0 = least l; 1 = l .most }
 
-abbrev pub requestRow : Row → RequestRow
-requestRow (Known (kind.Request c) l) = request.Known c (shapeOf l)
-requestRow (Known (kind.Reply c) l) = request.Unknown
-requestRow Unknown = request.Unknown
+-- whether n bytes behind the command number are right for a shape
+abbrev pub lengthRight : Shape → ℕ → Bool
+lengthRight h n = leb (h .0) n && leb n (h .0 + h .1)
 
-abbrev pub replyRow : Row → ReplyRow
-replyRow (Known (kind.Request c) l) = reply.Unknown
-replyRow (Known (kind.Reply c) l) = reply.Known c (shapeOf l)
-replyRow Unknown = reply.Unknown
+abbrev pub requestOf : RequestKind → Shape → ℕ → RequestJudged
+requestOf c h n = cond (lengthRight h n) (request.Known c) (request.Refused wrongField)
+
+abbrev pub replyOf : ReplyKind → Shape → ℕ → ReplyJudged
+replyOf c h n = cond (lengthRight h n) (reply.Known c) (reply.Refused wrongField)
+
+abbrev pub requestRow : Row → ℕ → RequestJudged
+requestRow (Known (kind.Request c) l) n = requestOf c (shapeOf l) n
+requestRow (Known (kind.Reply c) l) n = request.Refused unknownCommand
+requestRow Unknown n = request.Refused unknownCommand
+
+abbrev pub replyRow : Row → ℕ → ReplyJudged
+replyRow (Known (kind.Request c) l) n = reply.Refused unknownCommand
+replyRow (Known (kind.Reply c) l) n = replyOf c (shapeOf l) n
+replyRow Unknown n = reply.Refused unknownCommand

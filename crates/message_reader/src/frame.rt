@@ -5,9 +5,8 @@ ghost use lib.ListN.{length};
 ghost use Rattle.message_rules.specs.Body.{word};
 ghost use Rattle.message_rules.specs.Frame.{bodyLength, bodyOf, fits, lengthByte, plain, frameAnswer};
 ghost use Rattle.message_rules.specs.Layout.{longest};
-ghost use Rattle.message_reader.specs.Parts.{headAnswer, tailAnswer, lengthRight};
+ghost use Rattle.message_reader.specs.Parts.{headAnswer, tailAnswer};
 use crate::table;
-use crate::table::Shape;
 use message_rules::Address;
 use message_rules::Direction;
 use message_rules::answer;
@@ -131,19 +130,4 @@ pub(crate) fn frame_answer(direction: Direction, a: Address, s: &[u8]) -> u8
         return head;
     }
     tail_answer(a, is_plain(direction, s), s)
-}
-
-// Whether a body of this shape may have the length that its slice gives it.
-pub(crate) fn length_right(shape: Shape, s: &[u8]) -> bool
-    requires { ⌜ (1 < length (now s)) × (0 < bodyLength (now s)) ⌝ }
-    ensures { λ r. ⌜ r ≡ lengthRight shape (now (s .entry)) ⌝ }
-{
-    let behind = body_length(s) - 1;
-    if behind < shape.0 {
-        return false;
-    }
-    if shape.1 < behind - shape.0 {
-        return false;
-    }
-    true
 }

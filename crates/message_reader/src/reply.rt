@@ -1,18 +1,14 @@
 // Replies: the messages to the host.
 ghost use mathlib.Core.Path.{_≡_};
-ghost use Prim.Native.Nat.{_+_, _-_, _≤_, _<_};
-ghost use lib.ListN.{length};
-ghost use Rattle.message_rules.specs.Frame.{bodyLength};
-ghost use Rattle.message_rules.specs.Layout.{layoutOf, least};
 ghost use Rattle.message_rules.specs.Message.{decode, replies, toHost};
 ghost use Rattle.message_rules.specs.Row as row;
-ghost use Rattle.message_reader.specs.Outcome.{ReplyMeans, ReplyJudges};
+ghost use Rattle.message_reader.specs.Outcome.{ReplyMeans, Readable, ReplyJudges};
 ghost use Rattle.message_reader.specs.Parts.{bodyIn};
 ghost use Rattle.message_reader.specs.Start.{startsWith, nullBytes};
 use crate::ReplyRead;
 use crate::frame;
 use crate::table;
-use crate::table::ReplyRow;
+use crate::table::ReplyJudged;
 use message_rules::Address;
 use message_rules::Direction;
 use message_rules::Position;
@@ -25,7 +21,7 @@ use message_rules::fields::value_allowed;
 
 // The fields of a body of this kind, whose length is right.
 fn fields(kind: ReplyKind, s: &[u8]) -> ReplyRead
-    requires { ⌜ (1 < length (now s)) × (bodyLength (now s) + 3 ≤ length (now s)) × (0 < bodyLength (now s)) × (least (layoutOf (row.Reply kind)) ≤ bodyLength (now s) - 1) ⌝ }
+    requires { ⌜ Readable (row.Reply kind) (now s) ⌝ }
     ensures { λ r. ⌜ ReplyMeans (now (s .entry)) r (bodyIn replies (row.Reply kind) (now (s .entry))) ⌝ }
 {
     match kind {
@@ -58,12 +54,6 @@ fn fields(kind: ReplyKind, s: &[u8]) -> ReplyRead
     }
 }
 
-// What the tests of a reply come to, before its fields are read.
-enum ReplyJudged {
-    Known(ReplyKind),
-    Refused(u8),
-}
-
 // The tests of a reply in the papers' order, but those of its fields: the frame, then its body.
 fn judge(a: Address, s: &[u8]) -> ReplyJudged
     ensures { λ r. ⌜ ReplyJudges a (now (s .entry)) r ⌝ }
@@ -72,18 +62,11 @@ fn judge(a: Address, s: &[u8]) -> ReplyJudged
     if refusal != answer::DONE {
         return ReplyJudged::Refused(refusal);
     }
-    if frame::body_length(s) == 0 {
+    let n = frame::body_length(s);
+    if n == 0 {
         return ReplyJudged::Refused(answer::NULL_MESSAGE);
     }
-    match table::find_reply(s[2]) {
-        ReplyRow::Known(kind, shape) => {
-            if frame::length_right(shape, s) {
-                return ReplyJudged::Known(kind);
-            }
-            ReplyJudged::Refused(answer::WRONG_FIELD)
-        }
-        ReplyRow::Unknown => ReplyJudged::Refused(answer::UNKNOWN_COMMAND),
-    }
+    table::judge_reply(s[2], n - 1)
 }
 
 // The message of a reply that was judged, or its refusal.

@@ -1,16 +1,12 @@
 // Requests: the messages to the display.
-ghost use Prim.Native.Nat.{_+_, _-_, _≤_, _<_};
-ghost use lib.ListN.{length};
-ghost use Rattle.message_rules.specs.Frame.{bodyLength};
-ghost use Rattle.message_rules.specs.Layout.{layoutOf, least};
 ghost use Rattle.message_rules.specs.Message.{decode, requests};
 ghost use Rattle.message_rules.specs.Row as row;
-ghost use Rattle.message_reader.specs.Outcome.{RequestMeans};
+ghost use Rattle.message_reader.specs.Outcome.{RequestMeans, Readable, RequestJudges};
 ghost use Rattle.message_reader.specs.Parts.{bodyIn};
 use crate::RequestRead;
 use crate::frame;
 use crate::table;
-use crate::table::RequestRow;
+use crate::table::RequestJudged;
 use message_rules::Address;
 use message_rules::Direction;
 use message_rules::Position;
@@ -20,7 +16,7 @@ use message_rules::answer;
 
 // The fields of a body of this kind, whose length is right.
 fn fields(kind: RequestKind, s: &[u8]) -> RequestRead
-    requires { ⌜ (1 < length (now s)) × (bodyLength (now s) + 3 ≤ length (now s)) × (0 < bodyLength (now s)) × (least (layoutOf (row.Request kind)) ≤ bodyLength (now s) - 1) ⌝ }
+    requires { ⌜ Readable (row.Request kind) (now s) ⌝ }
     ensures { λ r. ⌜ RequestMeans (now (s .entry)) r (bodyIn requests (row.Request kind) (now (s .entry))) ⌝ }
 {
     match kind {
@@ -41,24 +37,28 @@ fn fields(kind: RequestKind, s: &[u8]) -> RequestRead
     }
 }
 
+// The tests of a request in the papers' order, but those of its fields: the frame, then its body.
+fn judge(a: Address, s: &[u8]) -> RequestJudged
+    ensures { λ r. ⌜ RequestJudges a (now (s .entry)) r ⌝ }
+{
+    let refusal = frame::frame_answer(Direction::Request, a, s);
+    if refusal != answer::DONE {
+        return RequestJudged::Refused(refusal);
+    }
+    let n = frame::body_length(s);
+    if n == 0 {
+        return RequestJudged::Refused(answer::UNKNOWN_COMMAND);
+    }
+    table::judge_request(s[2], n - 1)
+}
+
 // Reads a request that came to an address: the message, or the first refusal in the papers' order.
 pub fn read_request(a: Address, s: &[u8]) -> RequestRead
     ensures { λ r. ⌜ RequestMeans (now (s .entry)) r (decode requests a (now (s .entry))) ⌝ }
 {
-    let refusal = frame::frame_answer(Direction::Request, a, s);
-    if refusal != answer::DONE {
-        return RequestRead::Refused(refusal);
-    }
-    if frame::body_length(s) == 0 {
-        return RequestRead::Refused(answer::UNKNOWN_COMMAND);
-    }
-    match table::find_request(s[2]) {
-        RequestRow::Known(kind, shape) => {
-            if frame::length_right(shape, s) {
-                return fields(kind, s);
-            }
-            RequestRead::Refused(answer::WRONG_FIELD)
-        }
-        RequestRow::Unknown => RequestRead::Refused(answer::UNKNOWN_COMMAND),
+    let judged = judge(a, s);
+    match judged {
+        RequestJudged::Known(kind) => fields(kind, s),
+        RequestJudged::Refused(refusal) => RequestRead::Refused(refusal),
     }
 }

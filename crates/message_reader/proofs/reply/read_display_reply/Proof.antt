@@ -16,10 +16,10 @@ judge-requires : tie.Need-judge-requires
 judge-requires c κs = search needs
 
 judged-reply-requires : tie.Need-judged-reply-requires
-judged-reply-requires c κs = search needs
+judged-reply-requires c κs = c .judge .ensures
 
 returns-2 : tie.Need-returns-2
-returns-2 c = search needs
+returns-2 c = c .judged-reply .ensures
 
 pub read-display-reply-spec : {M : Type 1} → statement M
 read-display-reply-spec =

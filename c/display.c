@@ -23,17 +23,17 @@ static ddcci_display answer(ddcci_display display, const char *what, const uint8
 
 /* Writes the profile, and loads it with its value changed: a value above the maximum is refused. */
 static ddcci_display keep(ddcci_display display) {
-    uint8_t sheet[DDCCI_DISPLAY_LONGEST_PROFILE];
-    ddcci_display_written written = ddcci_display_write_profile(display, sheet, sizeof sheet);
+    uint8_t profile[DDCCI_DISPLAY_LONGEST_PROFILE];
+    ddcci_display_written written = ddcci_display_write_profile(display, profile, sizeof profile);
     printf("profile: answer %u, bytes", written.answer);
     for (size_t i = 0; i < written.length; i++) {
-        printf(" %02X", sheet[i]);
+        printf(" %02X", profile[i]);
     }
-    sheet[5] = 101;
-    ddcci_display_loaded loaded = ddcci_display_load_profile(display, sheet, written.length);
+    profile[5] = 101;
+    ddcci_display_loaded loaded = ddcci_display_load_profile(display, profile, written.length);
     printf("\nloaded with 101: answer %u at %zu\n", loaded.answer, loaded.position);
-    sheet[5] = 70;
-    loaded = ddcci_display_load_profile(loaded.display, sheet, written.length);
+    profile[5] = 70;
+    loaded = ddcci_display_load_profile(loaded.display, profile, written.length);
     printf("loaded with 70: answer %u at %zu\n", loaded.answer, loaded.position);
     return loaded.display;
 }

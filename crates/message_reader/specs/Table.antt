@@ -14,6 +14,7 @@ use Rattle.message_reader.specs.declared.table.RequestJudged.the-variant
 use Rattle.message_reader.specs.declared.table.ReplyJudged.{ReplyJudged}
 use Rattle.message_reader.specs.declared.table.ReplyJudged.the-variants as reply
 
+-- a row's layout as the code has it: the single bytes and words together, and the data at most
 abbrev pub shapeOf : Layout → Shape
 shapeOf l = record { 0 = least l; 1 = l .most }
 
@@ -21,12 +22,14 @@ shapeOf l = record { 0 = least l; 1 = l .most }
 abbrev pub lengthRight : Shape → ℕ → Bool
 lengthRight h n = leb (h .0) n && leb n (h .0 + h .1)
 
+-- 7: "n .. wrong for the command"
 abbrev pub requestOf : RequestKind → Shape → ℕ → RequestJudged
 requestOf c h n = cond (lengthRight h n) (request.Known c) (request.Refused wrongField)
 
 abbrev pub replyOf : ReplyKind → Shape → ℕ → ReplyJudged
 replyOf c h n = cond (lengthRight h n) (reply.Known c) (reply.Refused wrongField)
 
+-- 6: "command not in the table", each end by its own half of it
 abbrev pub requestRow : Row → ℕ → RequestJudged
 requestRow (Known (kind.Request c) l) n = requestOf c (shapeOf l) n
 requestRow (Known (kind.Reply c) l) n = request.Refused unknownCommand

@@ -87,7 +87,7 @@ pub text-small : (k : TextKind) (d : Display) (lent table out : List ℕ) → Ma
     length (whole k d lent table) ≤ longestText
 text-small Capabilities d lent table out m w =
     omega (arith, lent-sizes d (length lent) (length table) (length out) w .text, made-is-sound d m .text)
-text-small Table d lent table out m w = omega (arith, length-take (d .table .length) table, made-is-sound d m .room)
+text-small Table d lent table out m w = omega (arith, length-take (d .table .len) table, made-is-sound d m .room)
 
 pub is-course : IsCourse step
 is-course c k d lent table w es n m h x =

@@ -42,12 +42,12 @@ size-allowed p left s low high e = go (ltb p left) refl e
 module _ (k : TextKind) (d : Display) (lent table out : List ℕ) (q : ℕ) (o : Outcome) (z : Sound d) (r : Reads k d lent table out q o) where
   -- the offset was set
   set-to : (n : ℕ) → cursorOf k (o .display) .offset .0 ≡ n → MovesTo (length (whole k d lent table)) (held (cursorOf k d)) (some n) (held (cursorOf k (o .display)))
-  set-to n e = (e, size-allowed (d .size) (length (whole k d lent table) - n) (cursorOf k (o .display) .length) (z .low) (z .high) (rw e at (r .size)))
+  set-to n e = (e, size-allowed (d .size) (length (whole k d lent table) - n) (cursorOf k (o .display) .len) (z .low) (z .high) (rw e at (r .size)))
 
   moves : MovesTo (length (whole k d lent table)) (held (cursorOf k d)) (offsetSet (held (cursorOf k d)) q) (held (cursorOf k (o .display)))
-  moves = go (eqb q 0) (eqb q (cursorOf k d .offset .0)) (eqb q (cursorOf k d .offset .0 + cursorOf k d .length)) refl refl refl
+  moves = go (eqb q 0) (eqb q (cursorOf k d .offset .0)) (eqb q (cursorOf k d .offset .0 + cursorOf k d .len)) refl refl refl
     where
-      go : (a b c : Bool) → eqb q 0 ≡ a → eqb q (cursorOf k d .offset .0) ≡ b → eqb q (cursorOf k d .offset .0 + cursorOf k d .length) ≡ c
+      go : (a b c : Bool) → eqb q 0 ≡ a → eqb q (cursorOf k d .offset .0) ≡ b → eqb q (cursorOf k d .offset .0 + cursorOf k d .len) ≡ c
           → MovesTo (length (whole k d lent table)) (held (cursorOf k d)) (cond a (some 0) (cond b none (cond c (some q) (some 0)))) (held (cursorOf k (o .display)))
       go true b c x y w = set-to 0 (r .zero (eqb-true _ _ x))
       go false true c x y w = ap held (r .again (eqb-false _ _ x) (eqb-true _ _ y))

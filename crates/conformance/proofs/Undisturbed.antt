@@ -58,7 +58,7 @@ abbrev lost : List ℕ → Exchange
 lost output = record { output = output; turn = ignores; came = [] }
 
 abbrev whole-reply : TextKind → List ℕ → ℕ → Outcome → Exchange
-whole-reply k output q o = record { output = output; turn = turnOf k q o; came = take (o .length) (o .out) }
+whole-reply k output q o = record { output = output; turn = turnOf k q o; came = take (o .len) (o .out) }
 
 module _ (k : TextKind) (lent out output text buffer : List ℕ) (budget : ℕ) (room : outputRoom ≤ length output) (z : Bytes text) (small : length text ≤ longestText) (fits : length text ≤ length buffer) where
   -- an open transfer sends the request for the offset reached

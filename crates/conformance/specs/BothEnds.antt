@@ -23,7 +23,7 @@ use Rattle.conformance.specs.Conformance.{held}
 
 -- the turn that a step's outcome is: its fragment cursor, and the reply that it left in the output
 abbrev pub turnOf : TextKind → ℕ → Outcome → Turn
-turnOf k q o = acts q (held (cursorOf k (o .display))) (take (o .length) (o .out))
+turnOf k q o = acts q (held (cursorOf k (o .display))) (take (o .len) (o .out))
 
 module _ (c : Calls) (step : StepRule) (k : TextKind) (lent : List ℕ) where
   -- "Each exchange feeds it only the request that asking returned, or nothing": from the display and its table's buffer to what the turn leaves of them

@@ -18,13 +18,13 @@ use Rattle.transfer_rules.specs.Fragment.{requestMessage}
 
 -- "holds the text, an offset o and a length s": the fragment cursor of a text
 abbrev pub held : FragmentCursor → Cursor
-held c = record { offset = c .offset .0; size = c .length }
+held c = record { offset = c .offset .0; size = c .len }
 
 -- acting on the request for the offset q
 pub record Acts (k : TextKind) (d : Display) (lent table : List ℕ) (q : ℕ) (o : Outcome) : Type 0 where
   pub answer : o .answer ≡ done
   -- the cursor moves, and the whole reply is, as the faithful board's
-  pub conforms : ConformingAct k (whole k d lent table) (held (cursorOf k d)) q (held (cursorOf k (o .display))) (take (o .length) (o .out))
+  pub conforms : ConformingAct k (whole k d lent table) (held (cursorOf k d)) q (held (cursorOf k (o .display))) (take (o .len) (o .out))
   -- the display still holds the same text
   pub keeps : whole k (o .display) lent (o .table) ≡ whole k d lent table
 

@@ -83,7 +83,7 @@ fn records(number: u64, profile: &[u8]) {
 // The profile as it is written.
 struct Profile {
     bytes: [u8; PROFILE_ROOM],
-    length: usize,
+    len: usize,
     answer: u8,
 }
 
@@ -93,14 +93,14 @@ fn written(s: Site) -> Profile {
     let written = profile::write(settings, &mut out);
     Profile {
         bytes: out,
-        length: written.length,
+        len: written.len,
         answer: written.answer,
     }
 }
 
 fn report(number: u64, p: Profile) {
     let bytes = p.bytes;
-    show::counted(OUT, b"    the profile has ", p.length as u64, b" bytes\n");
+    show::counted(OUT, b"    the profile has ", p.len as u64, b" bytes\n");
     records(number, &bytes);
 }
 

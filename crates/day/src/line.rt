@@ -59,7 +59,7 @@ pub(crate) fn draw(seed: u64) -> Fate {
 // What arrives of a request: one that is lost reaches the display as no bytes, which change nothing.
 pub(crate) fn heard(fate: Fate, mut request: Frame) -> Frame {
     if fate == REQUEST_LOST {
-        request.length = 0;
+        request.len = 0;
         return request;
     }
     request
@@ -75,7 +75,7 @@ fn below(n: usize, seed: u64) -> usize {
 
 // One bit of some byte is turned over.
 fn flip(reply: Frame, seed: u64) -> [u8; OUTPUT_ROOM] {
-    let at = below(reply.length, seed);
+    let at = below(reply.len, seed);
     let mut bytes = reply.bytes;
     if at < OUTPUT_ROOM {
         bytes[at] = bytes[at] ^ 4;
@@ -108,7 +108,7 @@ fn arriving(l: Line, fate: Fate, n: usize) -> usize {
 // The line after a reply. The numbers come from a linear congruential generator.
 pub(crate) fn carry(l: Line, fate: Fate, reply: Frame) -> Line {
     let wire = put(l, fate, reply);
-    let came = arriving(l, fate, reply.length);
+    let came = arriving(l, fate, reply.len);
     let kept = if came == 0 { l.kept } else { came };
     Line {
         seed: l.seed % 2147483647 * 16807 % 2147483647,

@@ -16,7 +16,7 @@ fn framed(bytes: [u8; OUTPUT_ROOM], built: Built) -> Frame {
     };
     Frame {
         bytes: bytes,
-        length: length,
+        len: length,
     }
 }
 
@@ -51,6 +51,6 @@ pub(crate) fn fragment(t: Transfer) -> Frame {
     let asked = transfer::request(t, &mut m);
     Frame {
         bytes: m,
-        length: asked.len,
+        len: asked.len,
     }
 }

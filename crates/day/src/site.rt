@@ -8,7 +8,7 @@ use show::part::front;
 // A message as it goes over a line: its bytes stand in front.
 pub(crate) struct Frame {
     pub(crate) bytes: [u8; OUTPUT_ROOM],
-    pub(crate) length: usize,
+    pub(crate) len: usize,
 }
 
 // The display and the memory of its table, the line to it, its last reply and answer, how many messages it was sent, and whether everything held so far.
@@ -32,7 +32,7 @@ fn wide(x: u16) -> usize {
 
 // How many bytes of a table the display holds.
 pub(crate) fn stored(s: Site) -> usize {
-    wide(s.display.table.length)
+    wide(s.display.table.len)
 }
 
 // The site with something more that should hold.
@@ -54,13 +54,13 @@ pub(crate) fn deliver(mut s: Site, text: &[u8], message: Frame) -> Site {
         before,
         text,
         &mut table,
-        front(&bytes, message.length),
+        front(&bytes, message.len),
         &mut out,
     );
     let after = stepped.display;
     let reply = Frame {
         bytes: out,
-        length: stepped.length,
+        len: stepped.len,
     };
     s.display = after;
     s.table = table;

@@ -86,7 +86,7 @@ fn placed(text: &[u8], size: u16, seed: u64) -> Site {
     let display = started.display;
     let reply = Frame {
         bytes: [0u8; OUTPUT_ROOM],
-        length: 0,
+        len: 0,
     };
     Site {
         display: display,

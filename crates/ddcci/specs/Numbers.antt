@@ -21,8 +21,8 @@ use Rattle.ddcci.specs.declared.reply.ReplyNumbers.{ReplyNumbers}
 -- ---- building
 
 abbrev pub builtNumbers : Built → BuiltNumbers
-builtNumbers (built.Done n) = record { answer = done; length = n }
-builtNumbers (built.Refused k) = record { answer = k; length = 0 }
+builtNumbers (built.Done n) = record { answer = done; len = n }
+builtNumbers (built.Refused k) = record { answer = k; len = 0 }
 
 -- the numbers of what a builder of these bytes answers
 pub record BuildsNumbers (allowed : Bool) (s before after : List ℕ) (r : BuiltNumbers) : Type 0 where
@@ -38,7 +38,7 @@ BuildsMessageNumbers t a m before after r = BuildsNumbers (admits (t .bodyFor m)
 
 -- a request: its command number, code, value or offset, and where its data stand; what it does not have is 0
 abbrev pub requestFields : ℕ → ℕ → ℕ → RequestNumbers
-requestFields command code word = record { answer = done; command = command; code = code; word = word; position = 0; length = 0 }
+requestFields command code word = record { answer = done; command = command; code = code; word = word; position = 0; len = 0 }
 
 abbrev pub requestNumbers : RequestRead → RequestNumbers
 requestNumbers (request.Get c) = requestFields 0x01 c 0
@@ -47,8 +47,8 @@ requestNumbers request.Timing = requestFields 0x07 0 0
 requestNumbers request.Save = requestFields 0x0C 0 0
 requestNumbers (request.Text o) = requestFields 0xF3 0 (o .0)
 requestNumbers (request.TableRead c o) = requestFields 0xE2 c (o .0)
-requestNumbers (request.TableWrite c o at n) = record { answer = done; command = 0xE7; code = c; word = o .0; position = at .0; length = n }
-requestNumbers (request.Refused k) = record { answer = k; command = 0; code = 0; word = 0; position = 0; length = 0 }
+requestNumbers (request.TableWrite c o at n) = record { answer = done; command = 0xE7; code = c; word = o .0; position = at .0; len = n }
+requestNumbers (request.Refused k) = record { answer = k; command = 0; code = 0; word = 0; position = 0; len = 0 }
 
 pub record ReadsRequest (s : List ℕ) (r : RequestNumbers) : Type 0 where
   pub read : RequestRead
@@ -58,11 +58,11 @@ pub record ReadsRequest (s : List ℕ) (r : RequestNumbers) : Type 0 where
 -- a reply: its command number, fields, and where its data stand; what it does not have is 0
 abbrev pub fieldNumbers : ℕ → ℕ → ℕ → ℕ → ℕ → ℕ → ℕ → ReplyNumbers
 fieldNumbers answer command status code kind first second =
-    record { answer = answer; command = command; status = status; code = code; kind = kind; first = first; second = second; position = 0; length = 0 }
+    record { answer = answer; command = command; status = status; code = code; kind = kind; first = first; second = second; position = 0; len = 0 }
 
 abbrev pub fragmentNumbers : ℕ → ℕ → ℕ → ℕ → ReplyNumbers
 fragmentNumbers command offset position length =
-    record { answer = done; command = command; status = 0; code = 0; kind = 0; first = offset; second = 0; position = position; length = length }
+    record { answer = done; command = command; status = 0; code = 0; kind = 0; first = offset; second = 0; position = position; len = length }
 
 abbrev pub replyNumbers : ReplyRead → ReplyNumbers
 replyNumbers (reply.Value r c t m p) = fieldNumbers done 0x02 r c t m p

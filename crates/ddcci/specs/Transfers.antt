@@ -74,11 +74,11 @@ beginNumbers k size budget = byText (textOf k) (λ t. beganNumbers (rules.begin 
 
 -- request: the answer, the length and every byte of the output
 abbrev pub requestOutcome : TransferNumbers → List ℕ → RequestOutcome
-requestOutcome n out = byText (textOf (n .phase / 4)) (λ t. rules.request (transferOf t n) out) (record { answer = unknownCommand; length = 0; output = out })
+requestOutcome n out = byText (textOf (n .phase / 4)) (λ t. rules.request (transferOf t n) out) (record { answer = unknownCommand; len = 0; output = out })
 
 pub record Requests (x : RequestOutcome) (r : BuiltNumbers) (out : List ℕ) : Type 0 where
   pub answer : r .answer ≡ x .answer
-  pub length : r .length ≡ x .length
+  pub len : r .len ≡ x .len
   pub output : out ≡ x .output
 
 -- receive: the transfer with its answer, and every byte of the buffer

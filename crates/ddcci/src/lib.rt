@@ -14,7 +14,7 @@ use message_rules::answer;
 #[repr(C)]
 pub struct BuiltNumbers {
     pub answer: u8,
-    pub length: usize,
+    pub len: usize,
 }
 
 pub(crate) fn built_numbers(built: Built) -> BuiltNumbers
@@ -23,12 +23,9 @@ pub(crate) fn built_numbers(built: Built) -> BuiltNumbers
     match built {
         Built::Done(length) => BuiltNumbers {
             answer: answer::DONE,
-            length: length,
+            len: length,
         },
-        Built::Refused(k) => BuiltNumbers {
-            answer: k,
-            length: 0,
-        },
+        Built::Refused(k) => BuiltNumbers { answer: k, len: 0 },
     }
 }
 

@@ -24,7 +24,7 @@ pub struct ReplyNumbers {
     pub first: u16,
     pub second: u16,
     pub position: usize,
-    pub length: usize,
+    pub len: usize,
 }
 
 fn fragment_numbers(command: u8, offset: u16, position: usize, length: usize) -> ReplyNumbers
@@ -39,7 +39,7 @@ fn fragment_numbers(command: u8, offset: u16, position: usize, length: usize) ->
         first: offset,
         second: 0,
         position: position,
-        length: length,
+        len: length,
     }
 }
 
@@ -63,7 +63,7 @@ fn field_numbers(
         first: first,
         second: second,
         position: 0,
-        length: 0,
+        len: 0,
     }
 }
 

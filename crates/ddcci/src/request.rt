@@ -1,6 +1,6 @@
 // Requests for Rust and C: the messages to the display.
 ghost use mathlib.Core.Path.{_≡_};
-ghost use Rattle.message_rules.specs.Message.{requests, toDisplay, get, set, timing, save, text, tableRead, tableWrite};
+ghost use Rattle.message_rules.specs.Message.{requests, toDisplay, getFeature, setFeature, timing, save, text, tableRead, tableWrite};
 ghost use Rattle.ddcci.specs.Numbers.{requestFields, requestNumbers, BuildsMessageNumbers, ReadsRequest};
 use crate::BuiltNumbers;
 use message_builder::request;
@@ -18,7 +18,7 @@ pub struct RequestNumbers {
     pub code: u8,
     pub word: u16,
     pub position: usize,
-    pub length: usize,
+    pub len: usize,
 }
 
 fn message_numbers(command: u8, code: u8, word: u16) -> RequestNumbers
@@ -30,7 +30,7 @@ fn message_numbers(command: u8, code: u8, word: u16) -> RequestNumbers
         code: code,
         word: word,
         position: 0,
-        length: 0,
+        len: 0,
     }
 }
 
@@ -50,7 +50,7 @@ fn request_numbers(read: RequestRead) -> RequestNumbers
             code: code,
             word: offset.0,
             position: at.0,
-            length: len,
+            len: len,
         },
         RequestRead::Refused(k) => RequestNumbers {
             answer: k,
@@ -58,7 +58,7 @@ fn request_numbers(read: RequestRead) -> RequestNumbers
             code: 0,
             word: 0,
             position: 0,
-            length: 0,
+            len: 0,
         },
     }
 }
@@ -72,14 +72,14 @@ pub extern "C" fn ddcci_read_request(message: &[u8]) -> RequestNumbers
 
 #[no_mangle]
 pub extern "C" fn ddcci_build_get(code: u8, out: &mut [u8]) -> BuiltNumbers
-    ensures { λ r. ⌜ BuildsMessageNumbers requests toDisplay (get code) (now (out .entry)) (now (out .exit)) r ⌝ }
+    ensures { λ r. ⌜ BuildsMessageNumbers requests toDisplay (getFeature code) (now (out .entry)) (now (out .exit)) r ⌝ }
 {
     crate::built_numbers(request::build_get(TO_DISPLAY, code, out))
 }
 
 #[no_mangle]
 pub extern "C" fn ddcci_build_set(code: u8, value: u16, out: &mut [u8]) -> BuiltNumbers
-    ensures { λ r. ⌜ BuildsMessageNumbers requests toDisplay (set code value) (now (out .entry)) (now (out .exit)) r ⌝ }
+    ensures { λ r. ⌜ BuildsMessageNumbers requests toDisplay (setFeature code value) (now (out .entry)) (now (out .exit)) r ⌝ }
 {
     crate::built_numbers(request::build_set(TO_DISPLAY, code, value, out))
 }

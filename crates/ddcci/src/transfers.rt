@@ -140,7 +140,7 @@ fn request_of(kind: TextKind, n: TransferNumbers, out: &mut [u8]) -> BuiltNumber
     let requested = transfer::request(transfer_of(kind, n), out);
     BuiltNumbers {
         answer: requested.answer,
-        length: requested.len,
+        len: requested.len,
     }
 }
 
@@ -153,7 +153,7 @@ pub extern "C" fn ddcci_request(n: TransferNumbers, out: &mut [u8]) -> BuiltNumb
         TextNumber::Known(text) => request_of(text, n, out),
         TextNumber::Unknown => BuiltNumbers {
             answer: answer::UNKNOWN_COMMAND,
-            length: 0,
+            len: 0,
         },
     }
 }

@@ -27,7 +27,7 @@ sentCursor Nothing = startingCursor
 sentCursor (Fragment k c) = c
 
 abbrev pub numbers : Display → (answer length : ℕ) → Found → DisplayStepped
-numbers d k n f = record { display = d; answer = k; length = n; offset = sentCursor f .offset .0; count = sentCursor f .length; text = sentText f }
+numbers d k n f = record { display = d; answer = k; len = n; offset = sentCursor f .offset .0; count = sentCursor f .len; text = sentText f }
 
 -- what an exported step leaves: all that it returns, and every lent byte
 pub record Numbered : Type 0 where
@@ -37,7 +37,7 @@ pub record Numbered : Type 0 where
 
 -- a step's outcome in numbers
 abbrev pub inNumbers : Outcome → Numbered
-inNumbers o = record { stepped = numbers (o .display) (o .answer) (o .length) (o .found); table = o .table; out = o .out }
+inNumbers o = record { stepped = numbers (o .display) (o .answer) (o .len) (o .found); table = o .table; out = o .out }
 
 -- loading: the display with the settings that it leaves
 abbrev pub loadedNumbers : Display → Loaded → DisplayLoaded

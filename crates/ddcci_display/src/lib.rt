@@ -29,7 +29,7 @@ pub const TABLE: u8 = 2;
 pub struct DisplayStepped {
     pub display: Display,
     pub answer: u8,
-    pub length: usize,
+    pub len: usize,
     pub offset: usize,
     pub count: usize,
     pub text: u8,
@@ -75,7 +75,7 @@ fn plain(d: Display, answer: u8, length: usize) -> DisplayStepped
     DisplayStepped {
         display: d,
         answer: answer,
-        length: length,
+        len: length,
         offset: 0,
         count: 0,
         text: 0,
@@ -89,12 +89,12 @@ fn moved(d: Display, kind: TextKind, cursor: FragmentCursor, length: usize) -> D
     let text = text_number(kind);
     let at = cursor.offset;
     let offset = at.0 as usize;
-    let count = cursor.length as usize;
+    let count = cursor.len as usize;
     let display = changes::with_cursor(d, kind, cursor);
     DisplayStepped {
         display: display,
         answer: answer::DONE,
-        length: length,
+        len: length,
         offset: offset,
         count: count,
         text: text,

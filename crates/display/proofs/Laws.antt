@@ -70,7 +70,7 @@ fragment-admitted s h = rw (le-leb _ _ h)
 pub fragment-fits : (k : TextKind) (text table : List ℕ) (p : ℕ) (t : TextState) (q : ℕ) → length (foundBytes text table (Fragment k (nextCursor (lesser p mostFragment) t q))) ≤ mostFragment
 unfolding nextCursor
 fragment-fits k text table p t q =
-    simp length-take (omega (arith, lesser-right p mostFragment, lesser-left (lesser p mostFragment) (t .length - nextCursor (lesser p mostFragment) t q .offset .0)))
+    simp length-take (omega (arith, lesser-right p mostFragment, lesser-left (lesser p mostFragment) (t .len - nextCursor (lesser p mostFragment) t q .offset .0)))
 
 -- ---- the data of a message
 

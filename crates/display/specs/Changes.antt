@@ -12,11 +12,11 @@ use Rattle.display.specs.declared.changes.Pending.{Pending}
 use Rattle.display.specs.declared.changes.Pending.the-variants.{Store, Save, Replied, Moved, Written, Refused}
 
 abbrev pub kept : Display → (answer length : ℕ) → Stepped
-kept d k n = record { display = d; answer = k; length = n; found = Nothing }
+kept d k n = record { display = d; answer = k; len = n; found = Nothing }
 
 -- a fragment is found where a cursor moves
 abbrev pub moved : Display → TextKind → FragmentCursor → (length : ℕ) → Stepped
-moved d k c n = record { display = withCursor k d c; answer = done; length = n; found = Fragment k c }
+moved d k c n = record { display = withCursor k d c; answer = done; len = n; found = Fragment k c }
 
 abbrev pub stepped : Display → Pending → Stepped
 stepped d (Store c value) = kept (withSettings d (withPresent (d .settings) c value)) done 0

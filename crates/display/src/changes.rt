@@ -31,7 +31,7 @@ pub(crate) fn kept(d: Display, answer: u8, length: usize) -> Stepped
     Stepped {
         display: d,
         answer: answer,
-        length: length,
+        len: length,
         found: Found::Nothing,
     }
 }
@@ -65,7 +65,7 @@ pub fn with_cursor(mut d: Display, kind: TextKind, cursor: FragmentCursor) -> Di
     match kind {
         TextKind::Capabilities => {
             let state = TextState {
-                length: d.capabilities.length,
+                len: d.capabilities.len,
                 cursor: cursor,
             };
             d.capabilities = state;
@@ -73,7 +73,7 @@ pub fn with_cursor(mut d: Display, kind: TextKind, cursor: FragmentCursor) -> Di
         }
         TextKind::Table => {
             let state = TextState {
-                length: d.table.length,
+                len: d.table.len,
                 cursor: cursor,
             };
             d.table = state;
@@ -98,7 +98,7 @@ pub(crate) fn moved(d: Display, kind: TextKind, cursor: FragmentCursor, length: 
     Stepped {
         display: display,
         answer: answer::DONE,
-        length: length,
+        len: length,
         found: Found::Fragment(kind, cursor),
     }
 }

@@ -149,7 +149,7 @@ fn obey(
             operation::table_read(d.table, d.size, text, table, code, q, out)
         }
         RequestRead::TableWrite(code, at, position, n) => {
-            operation::write(d.table.length, table, code, at, message, position.0, n)
+            operation::write(d.table.len, table, code, at, message, position.0, n)
         }
         RequestRead::Refused(answer) => operation::refuse(answer, out),
     }
@@ -159,7 +159,7 @@ fn obey(
 pub fn prepare(d: Display, text: &[u8], table: &mut [u8], message: &[u8], out: &mut [u8]) -> Pending
     ensures { λ r. ⌜ left (stepped d r) (now (table .exit)) (now (out .exit)) ≡ step d (now (text .entry)) (now (table .entry)) (now (message .entry)) (now (out .entry)) ⌝ }
 {
-    let kept = d.capabilities.length;
+    let kept = d.capabilities.len;
     if lent_well(kept, text.len(), table.len(), out.len()) {
         let request = read_request(TO_DISPLAY, message);
         return obey(d, text, table, request, message, out);

@@ -113,12 +113,12 @@ pub(crate) fn write(
     n: usize,
 ) -> Pending
     requires { ⌜ (length (now table) ≡ tableRoom) × (from + n ≤ length (now message)) ⌝ }
-    ensures { λ r. ⌜ ((d : Display) (out : List ℕ) → d .table .length ≡ old → left (stepped d r) (now (table .exit)) out ≡ outcome (tableWriteTurn d (now (table .entry)) code (at .0) (take n (drop from (now (message .entry))))) out) ⌝ }
+    ensures { λ r. ⌜ ((d : Display) (out : List ℕ) → d .table .len ≡ old → left (stepped d r) (now (table .exit)) out ≡ outcome (tableWriteTurn d (now (table .entry)) code (at .0) (take n (drop from (now (message .entry))))) out) ⌝ }
 {
     let data = &message[from..from + n];
     let writing = table::write(old, table, code, at, data);
     if writing.answer == answer::DONE {
-        return Pending::Written(writing.length);
+        return Pending::Written(writing.len);
     }
     Pending::Refused(writing.answer, 0)
 }

@@ -60,7 +60,7 @@ struct Obeyed {
 // A record's kind and the length of its body, or what is wrong.
 struct Head {
     kind: u8,
-    length: usize,
+    len: usize,
     fault: u8,
 }
 
@@ -203,7 +203,7 @@ fn read_head() -> Head {
     let got = io::read_full(STDIN_FILENO, h);
     Head {
         kind: octet(h, 0),
-        length: wide(word(h, 1)),
+        len: wide(word(h, 1)),
         fault: head_fault(got),
     }
 }
@@ -211,7 +211,7 @@ fn read_head() -> Head {
 fn read_record(text: &mut [u8], body: &mut [u8]) -> Head {
     let mut h = read_head();
     if h.fault == NONE {
-        let fault = read_body(h.kind, h.length, text, body);
+        let fault = read_body(h.kind, h.len, text, body);
         h.fault = fault;
         return h;
     }
@@ -261,7 +261,7 @@ fn write_profile(d: Display) -> Obeyed {
     let written = profile::write(d.settings, &mut out);
     Obeyed {
         display: d,
-        go: write_answer(written.answer, front(&out, written.length)),
+        go: write_answer(written.answer, front(&out, written.len)),
     }
 }
 
@@ -311,15 +311,15 @@ fn main() {
             return;
         }
         if h.kind == MESSAGE {
-            let whole = front(&text, wide(d.capabilities.length));
-            let stepped = display::step(d, whole, &mut table, front(&body, h.length), &mut out);
+            let whole = front(&text, wide(d.capabilities.len));
+            let stepped = display::step(d, whole, &mut table, front(&body, h.len), &mut out);
             let after = stepped.display;
             d = after;
-            if !write_answer(stepped.answer, front(&out, stepped.length)) {
+            if !write_answer(stepped.answer, front(&out, stepped.len)) {
                 return;
             }
         } else {
-            let obeyed = obey(d, h.kind, h.length, &text, &body);
+            let obeyed = obey(d, h.kind, h.len, &text, &body);
             let after = obeyed.display;
             d = after;
             if !obeyed.go {

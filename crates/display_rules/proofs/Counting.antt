@@ -9,7 +9,7 @@ use lib.Dec.{eqb}
 use borrow.Author.Tests.{eqb-true, eqb-false}
 use Rattle.codes.specs.Codes.{member, countOf}
 use Rattle.message_rules.specs.Answer.{done, wrongSize, wrongField, codeNotAllowed}
-use Rattle.message_rules.specs.Message.{Request, get, set, timing, save, text, tableRead, tableWrite, requests, decode, null, toDisplay, toHost}
+use Rattle.message_rules.specs.Message.{Request, getFeature, setFeature, timing, save, text, tableRead, tableWrite, requests, decode, null, toDisplay, toHost}
 use Rattle.message_rules.specs.Read.{Read, ok, refused}
 use Rattle.message_rules.specs.Message.{tableCode}
 use Rattle.settings.specs.Settings.{reservedBits, declareCode, setAnswer, setCode, withPresent, saveAll, timingIn}
@@ -74,9 +74,9 @@ table-read-same d lent table c q = go (eqb c tableCode)
 
 write-same : (d : Display) (table : List ℕ) (c at : ℕ) (s : List ℕ) → Same d (tableWriteTurn d table c at s)
 unfolding tableWriteTurn
-write-same d table c at s = go (eqb (writeAnswer c (d .table .length) at (length s)) done) refl
+write-same d table c at s = go (eqb (writeAnswer c (d .table .len) at (length s)) done) refl
   where
-    go : (t : Bool) → eqb (writeAnswer c (d .table .length) at (length s)) done ≡ t → Same d (tableWriteTurn d table c at s)
+    go : (t : Bool) → eqb (writeAnswer c (d .table .len) at (length s)) done ≡ t → Same d (tableWriteTurn d table c at s)
     go true h = rw h
     go false h = rw h
 
@@ -84,8 +84,8 @@ same : (d : Display) (lent table : List ℕ) (w : Bool) (r : Read Request) → S
 unfolding getTurn saveTurn saveAll
 same d lent table false r = refl
 same d lent table true (refused k) = refl
-same d lent table true (ok (get c)) = refl
-same d lent table true (ok (set c v)) = set-same d table c v
+same d lent table true (ok (getFeature c)) = refl
+same d lent table true (ok (setFeature c v)) = set-same d table c v
 same d lent table true (ok timing) = timing-same d table
 same d lent table true (ok save) = refl
 same d lent table true (ok (text q)) = read-same Capabilities d lent table q

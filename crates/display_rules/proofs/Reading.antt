@@ -34,7 +34,7 @@ use Rattle.display_rules.proofs.Sound.{size-is, made-is-sound}
 module _ (c : FragmentCursor) (q : ℕ) where
   next-zero : q ≡ 0 → nextOffset c q ≡ 0
   unfolding nextOffset
-  next-zero h = go (eqb q (c .offset .0) || eqb q (c .offset .0 + c .length))
+  next-zero h = go (eqb q (c .offset .0) || eqb q (c .offset .0 + c .len))
     where
       go : (t : Bool) → cond t q 0 ≡ 0
       go true = h
@@ -44,15 +44,15 @@ module _ (c : FragmentCursor) (q : ℕ) where
   unfolding nextOffset
   next-again h = rw (eq-eqb _ _ h)
 
-  next-moves : q ≡ c .offset .0 + c .length → nextOffset c q ≡ q
+  next-moves : q ≡ c .offset .0 + c .len → nextOffset c q ≡ q
   unfolding nextOffset
-  next-moves h = rw (eq-eqb q (c .offset .0 + c .length) h) (go (eqb q (c .offset .0)))
+  next-moves h = rw (eq-eqb q (c .offset .0 + c .len) h) (go (eqb q (c .offset .0)))
     where
       go : (t : Bool) → cond (t || true) q 0 ≡ q
       go true = refl
       go false = refl
 
-  next-other : (q ≡ c .offset .0 → ⊥) → (q ≡ c .offset .0 + c .length → ⊥) → nextOffset c q ≡ 0
+  next-other : (q ≡ c .offset .0 → ⊥) → (q ≡ c .offset .0 + c .len → ⊥) → nextOffset c q ≡ 0
   unfolding nextOffset
   next-other f g = rw (ne-eqb _ _ f, ne-eqb _ _ g)
 
@@ -61,7 +61,7 @@ again-is : (p : ℕ) (t : TextState) (q : ℕ) → Placed p t → (q ≡ 0 → �
 unfolding nextCursor
 again-is p t q placed nz h =
     let e : nextOffset (t .cursor) q ≡ t .cursor .offset .0 = next-again (t .cursor) q h ∙ h in
-    let l : lesser p (t .length - t .cursor .offset .0) ≡ t .cursor .length = ⊎-elim (λ s. absurd (nz (h ∙ ap (λ (c : FragmentCursor). c .offset .0) s))) (λ s. sym s) placed in
+    let l : lesser p (t .len - t .cursor .offset .0) ≡ t .cursor .len = ⊎-elim (λ s. absurd (nz (h ∙ ap (λ (c : FragmentCursor). c .offset .0) s))) (λ s. sym s) placed in
     rw e (ap (cursorAt (t .cursor .offset .0)) l)
 
 -- ---- the bytes sent are those of the whole text
@@ -73,12 +73,12 @@ drop-take (suc i) (suc n) [] = sym (take-nil (suc n - suc i))
 drop-take (suc i) (suc n) (x ∷ l) = let e : n - i ≡ suc n - suc i = omega arith in drop-take i n l ∙ ap (λ (k : ℕ). take k (drop i l)) e
 
 -- a fragment within the first n bytes is the same part of those
-within-front : (p : ℕ) (t : TextState) (q : ℕ) (l : List ℕ) → fragmentAt l (nextCursor p t q) ≡ fragmentAt (take (t .length) l) (nextCursor p t q)
+within-front : (p : ℕ) (t : TextState) (q : ℕ) (l : List ℕ) → fragmentAt l (nextCursor p t q) ≡ fragmentAt (take (t .len) l) (nextCursor p t q)
 unfolding nextCursor
 within-front p t q l =
     let o : ℕ = nextOffset (t .cursor) q in
-    let m : ℕ = lesser p (t .length - o) in
-    sym (ap (take m) (drop-take o (t .length) l) ∙ take-take m (t .length - o) (drop o l) (lesser-right p (t .length - o)))
+    let m : ℕ = lesser p (t .len - o) in
+    sym (ap (take m) (drop-take o (t .len) l) ∙ take-take m (t .len - o) (drop o l) (lesser-right p (t .len - o)))
 
 same-part : (k : TextKind) (d : Display) (lent table : List ℕ) (q : ℕ) (c : FragmentCursor) → c ≡ nextCursor (fragmentSize d) (textState k d) q
     → foundBytes lent table (Fragment k c) ≡ fragmentAt (whole k d lent table) c
@@ -87,11 +87,11 @@ same-part Table d lent table q c e = rw e (within-front (fragmentSize d) (d .tab
 
 -- ---- a read
 
-whole-length : (k : TextKind) (d : Display) (lent table out : List ℕ) → Sound d → lentWell d (length lent) (length table) (length out) ≡ true → length (whole k d lent table) ≡ textState k d .length
+whole-length : (k : TextKind) (d : Display) (lent table out : List ℕ) → Sound d → lentWell d (length lent) (length table) (length out) ≡ true → length (whole k d lent table) ≡ textState k d .len
 whole-length Capabilities d lent table out z w = lent-sizes d (length lent) (length table) (length out) w .text
 whole-length Table d lent table out z w =
     let e : Lent d (length lent) (length table) (length out) = lent-sizes d (length lent) (length table) (length out) w in
-    length-take-le (d .table .length) table (omega (arith, e .table, z .room))
+    length-take-le (d .table .len) table (omega (arith, e .table, z .room))
 
 placed-of : (k : TextKind) (d : Display) → Sound d → Placed (d .size) (textState k d)
 placed-of Capabilities d z = z .capabilities
@@ -109,7 +109,7 @@ offset-is : (p : ℕ) (t : TextState) (q : ℕ) → nextCursor p t q .offset .0 
 unfolding nextCursor
 offset-is p t q = refl
 
-length-is : (f p : ℕ) (t : TextState) (q : ℕ) → f ≡ p → nextCursor f t q .length ≡ lesser p (t .length - nextCursor f t q .offset .0)
+length-is : (f p : ℕ) (t : TextState) (q : ℕ) → f ≡ p → nextCursor f t q .len ≡ lesser p (t .len - nextCursor f t q .offset .0)
 unfolding nextCursor
 length-is f p t q h = rw h
 

@@ -7,7 +7,7 @@ use lib.Dec.{eqb, leb}
 use lib.ListN.{length}
 use borrow.Author.Tests.{ne-eqb}
 use Rattle.message_rules.specs.Answer.{done, wrongSize, unknownCommand, codeNotAllowed, valueTooLarge, wrongField, notWanted, textTooLong}
-use Rattle.message_rules.specs.Message.{Request, get, set, timing, save, text, tableRead, tableWrite, requests, decode, null, toDisplay, toHost}
+use Rattle.message_rules.specs.Message.{Request, getFeature, setFeature, timing, save, text, tableRead, tableWrite, requests, decode, null, toDisplay, toHost}
 use Rattle.message_rules.specs.Read.{Read, ok, refused, unless}
 use Rattle.message_rules.proofs.Order.{null-read}
 use Rattle.message_builder.specs.Output.{over}
@@ -56,12 +56,12 @@ module _ (d : Display) (lent table out : List ℕ) where
   of-refused k = go (eqb k unknownCommand) refl
     where
       go : (t : Bool) → eqb k unknownCommand ≡ t → NothingChanged d table out (refused k) (outcome (turnOf d lent table (refused k)) out)
-      go true h = record { display = refl; table = refl; found = refl; length = rw h (ap length null-is); out = rw h (ap (λ (s : List ℕ). over s out) null-is) }
-      go false h = record { display = refl; table = refl; found = refl; length = rw h; out = rw h }
+      go true h = record { display = refl; table = refl; found = refl; len = rw h (ap length null-is); out = rw h (ap (λ (s : List ℕ). over s out) null-is) }
+      go false h = record { display = refl; table = refl; found = refl; len = rw h; out = rw h }
 
-  of-set : (c v : ℕ) → (outcome (setTurn d table c v) out .answer ≡ done → ⊥) → NothingChanged d table out (ok (set c v)) (outcome (setTurn d table c v) out)
+  of-set : (c v : ℕ) → (outcome (setTurn d table c v) out .answer ≡ done → ⊥) → NothingChanged d table out (ok (setFeature c v)) (outcome (setTurn d table c v) out)
   unfolding setTurn setCode setAnswer answerToSet
-  of-set c v h = record { display = rw (ne-eqb _ _ h); table = refl; found = refl; length = rw (set-not-6 _ _); out = rw (set-not-6 _ _) }
+  of-set c v h = record { display = rw (ne-eqb _ _ h); table = refl; found = refl; len = rw (set-not-6 _ _); out = rw (set-not-6 _ _) }
 
   of-timing : (outcome (timingTurn d table) out .answer ≡ done → ⊥) → NothingChanged d table out (ok timing) (outcome (timingTurn d table) out)
   unfolding timingTurn
@@ -70,7 +70,7 @@ module _ (d : Display) (lent table out : List ℕ) where
       go : (t : Bool) → (outcome (cond t (accepted d table (bytesOf (timingOf (timingIn (d .settings))))) (refusal wrongField d table noReply)) out .answer ≡ done → ⊥)
           → NothingChanged d table out (ok timing) (outcome (cond t (accepted d table (bytesOf (timingOf (timingIn (d .settings))))) (refusal wrongField d table noReply)) out)
       go true h = absurd (h refl)
-      go false h = record { display = refl; table = refl; found = refl; length = refl; out = refl }
+      go false h = record { display = refl; table = refl; found = refl; len = refl; out = refl }
 
   of-read : (c q : ℕ) → (outcome (tableReadTurn d lent table c q) out .answer ≡ done → ⊥) → NothingChanged d table out (ok (tableRead c q)) (outcome (tableReadTurn d lent table c q) out)
   unfolding tableReadTurn readTurn
@@ -79,24 +79,24 @@ module _ (d : Display) (lent table out : List ℕ) where
       go : (t : Bool) → (outcome (cond t (readTurn Table d lent table q) (refusal codeNotAllowed d table (null toHost))) out .answer ≡ done → ⊥)
           → NothingChanged d table out (ok (tableRead c q)) (outcome (cond t (readTurn Table d lent table q) (refusal codeNotAllowed d table (null toHost))) out)
       go true h = absurd (h refl)
-      go false h = record { display = refl; table = refl; found = refl; length = rw null-is; out = rw null-is }
+      go false h = record { display = refl; table = refl; found = refl; len = rw null-is; out = rw null-is }
 
   of-write : (c at : ℕ) (s : List ℕ) → (outcome (tableWriteTurn d table c at s) out .answer ≡ done → ⊥)
       → NothingChanged d table out (ok (tableWrite c at s)) (outcome (tableWriteTurn d table c at s) out)
   unfolding tableWriteTurn
   of-write c at s h =
-      let k : ℕ = writeAnswer c (d .table .length) at (length s) in
-      let no : eqb k done ≡ false = not-accepted (eqb k done) (accepted (withTable d (unsent (lengthAfter (d .table .length) at (length s)))) (written table at s) noReply) (refusal k d table noReply) refl h in
-      let six : eqb k unknownCommand ≡ false = write-not-6 c (d .table .length) at (length s) in
-      record { display = rw no; table = rw no; found = rw no; length = rw (no, six); out = rw (no, six) }
+      let k : ℕ = writeAnswer c (d .table .len) at (length s) in
+      let no : eqb k done ≡ false = not-accepted (eqb k done) (accepted (withTable d (unsent (lengthAfter (d .table .len) at (length s)))) (written table at s) noReply) (refusal k d table noReply) refl h in
+      let six : eqb k unknownCommand ≡ false = write-not-6 c (d .table .len) at (length s) in
+      record { display = rw no; table = rw no; found = rw no; len = rw (no, six); out = rw (no, six) }
 
   refusal-of : (w : Bool) (r : Read Request) → (outcome (cond w (turnOf d lent table r) (refusal wrongSize d table noReply)) out .answer ≡ done → ⊥)
       → NothingChanged d table out r (outcome (cond w (turnOf d lent table r) (refusal wrongSize d table noReply)) out)
   unfolding getTurn saveTurn readTurn
-  refusal-of false r h = record { display = refl; table = refl; found = refl; length = rw (and-false (isTableRead r)); out = rw (and-false (isTableRead r)) }
+  refusal-of false r h = record { display = refl; table = refl; found = refl; len = rw (and-false (isTableRead r)); out = rw (and-false (isTableRead r)) }
   refusal-of true (refused k) h = of-refused k
-  refusal-of true (ok (get c)) h = absurd (h refl)
-  refusal-of true (ok (set c v)) h = of-set c v h
+  refusal-of true (ok (getFeature c)) h = absurd (h refl)
+  refusal-of true (ok (setFeature c v)) h = of-set c v h
   refusal-of true (ok timing) h = of-timing h
   refusal-of true (ok save) h = absurd (h refl)
   refusal-of true (ok (text q)) h = absurd (h refl)

@@ -38,27 +38,27 @@ use Rattle.display_rules.proofs.Tables.{accepts}
 -- ---- the wrong rules
 
 abbrev refusesAll : StepRule
-refusesAll d lent table message out = record { display = d; answer = wrongField; length = 0; found = Nothing; table = table; out = out }
+refusesAll d lent table message out = record { display = d; answer = wrongField; len = 0; found = Nothing; table = table; out = out }
 
 abbrev staysPut : StepRule
 staysPut d lent table message out =
     let o = step d lent table message out in
-    record { display = d; answer = o .answer; length = o .length; found = o .found; table = o .table; out = o .out }
+    record { display = d; answer = o .answer; len = o .len; found = o .found; table = o .table; out = o .out }
 
 abbrev fixedReply : StepRule
 fixedReply d lent table message out =
     let o = step d lent table message out in
-    record { display = o .display; answer = o .answer; length = 3; found = o .found; table = o .table; out = over nullBytes out }
+    record { display = o .display; answer = o .answer; len = 3; found = o .found; table = o .table; out = over nullBytes out }
 
 abbrev handsNothing : StepRule
 handsNothing d lent table message out =
     let o = step d lent table message out in
-    record { display = o .display; answer = o .answer; length = o .length; found = Nothing; table = o .table; out = o .out }
+    record { display = o .display; answer = o .answer; len = o .len; found = Nothing; table = o .table; out = o .out }
 
 abbrev silent : StepRule
 silent d lent table message out =
     let o = step d lent table message out in
-    record { display = o .display; answer = o .answer; length = 0; found = o .found; table = o .table; out = out }
+    record { display = o .display; answer = o .answer; len = 0; found = o .found; table = o .table; out = out }
 
 abbrev larger : ℕ → ℕ → ℕ
 larger a b = cond (ltb a b) b a
@@ -67,9 +67,9 @@ abbrev keepsTail : StepRule
 keepsTail d lent table message out =
     let o = step d lent table message out in
     record {
-      display = withTable (o .display) (record { length = larger (d .table .length) (o .display .table .length); cursor = o .display .table .cursor });
+      display = withTable (o .display) (record { len = larger (d .table .len) (o .display .table .len); cursor = o .display .table .cursor });
       answer = o .answer;
-      length = o .length;
+      len = o .len;
       found = o .found;
       table = o .table;
       out = o .out;
@@ -122,7 +122,7 @@ unfolding start startAnswer zero-timing
 hands-nothing-refuted h =
     let x = at-zero handsNothing h in
     let e : after0 .offset .0 ≡ 0 = x .zero refl in
-    let l : after0 .length ≡ 1 = rw e at (x .size) in
+    let l : after0 .len ≡ 1 = rw e at (x .size) in
     let n : [] ≡ fragmentAt text2 after0 = x .handed in
     let m : _≡_ {A = List ℕ} [] (1 ∷ []) = rw (e, l) at n in
     let z : _≡_ {A = ℕ} 0 1 = ap length m in
@@ -144,7 +144,7 @@ answers-6 = rw empty-is-6
 pub silent-refuted : RefusalsChangeNothing silent → ⊥
 silent-refuted h =
     let no : step two text2 table0 emptyBody out0 .answer ≡ done → ⊥ = λ e. omega (arith, answers-6, e) in
-    let x = h two text2 table0 emptyBody out0 no .length in
+    let x = h two text2 table0 emptyBody out0 no .len in
     let z : _≡_ {A = ℕ} 0 3 = rw answers-6 at x in
     omega (arith, z)
 
@@ -176,7 +176,7 @@ none-valid = write-valid [] (omega arith) bytes.none
 write-is : (d : Display) (s : List ℕ) → lentWell d 2 tableRoom 38 ≡ true → Valid requests (tableWrite tableCode 0 s) → 0 + length s ≤ tableRoom
     → step d text2 table0 (write s) out0 ≡ outcome (accepted (withTable d (unsent (length s))) (written table0 0 s) noReply) out0
 unfolding step turn tableWriteTurn lengthAfter
-write-is d s w v l = rw (w, read-back (tableWrite tableCode 0 s) v, accepts (d .table .length) 0 (length s) (omega arith) l)
+write-is d s w v l = rw (w, read-back (tableWrite tableCode 0 s) v, accepts (d .table .len) 0 (length s) (omega arith) l)
 
 abbrev longer : Display
 longer = keepsTail two text2 table0 (write (7 ∷ [])) out0 .display
@@ -191,8 +191,8 @@ keeps-tail-refuted h =
     let w : lentWell longer 2 tableRoom 38 ≡ true = rw longer-is in
     let made = stepped (started zero-timing 2 1) text2 table0 (write (7 ∷ [])) out0 (write-bytes (7 ∷ []) one-valid) in
     let x = h longer text2 table0 (write []) out0 0 [] made w (read-back (tableWrite tableCode 0 []) none-valid) (omega arith) (omega arith) .1 in
-    let y : take (larger (longer .table .length) 0) (written table0 0 []) ≡ [] = rw (write-is longer [] w none-valid (omega arith)) at x in
-    let e : longer .table .length ≡ 1 = ap (λ (d : Display). d .table .length) longer-is in
+    let y : take (larger (longer .table .len) 0) (written table0 0 []) ≡ [] = rw (write-is longer [] w none-valid (omega arith)) at x in
+    let e : longer .table .len ≡ 1 = ap (λ (d : Display). d .table .len) longer-is in
     let z : take (larger 1 0) (written table0 0 []) ≡ [] = rw e at y in
     let n : _≡_ {A = ℕ} 1 0 = ap length z in
     omega (arith, n)

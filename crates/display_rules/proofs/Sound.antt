@@ -12,7 +12,7 @@ use Rattle.checksum.specs.Bytes.{Bytes, more}
 use Rattle.codes.specs.Codes.{allCodes}
 use Rattle.message_rules.specs.Answer.{done, wrongSize, wrongField, codeNotAllowed, notWanted, textTooLong, notDeclarable}
 use Rattle.message_rules.specs.Limits.{mostFragment}
-use Rattle.message_rules.specs.Message.{Request, get, set, timing, save, text, tableRead, tableWrite, requests, decode, Valid, null, toDisplay, toHost}
+use Rattle.message_rules.specs.Message.{Request, getFeature, setFeature, timing, save, text, tableRead, tableWrite, requests, decode, Valid, null, toDisplay, toHost}
 use Rattle.message_rules.specs.Read.{Read, ok, refused}
 use Rattle.message_rules.proofs.RoundTrip.{requests-round}
 use Rattle.message_rules.proofs.Tests.{cond-zero}
@@ -116,19 +116,19 @@ length-in-room old at n h l = go (eqb at 0) (ltb old (at + n))
 
 after-write : (d : Display) (table : List ℕ) (c at : ℕ) (s : List ℕ) → Sound d → Sound (tableWriteTurn d table c at s .display)
 unfolding tableWriteTurn
-after-write d table c at s z = go (eqb (writeAnswer c (d .table .length) at (length s)) done) refl
+after-write d table c at s z = go (eqb (writeAnswer c (d .table .len) at (length s)) done) refl
   where
-    go : (t : Bool) → eqb (writeAnswer c (d .table .length) at (length s)) done ≡ t → Sound (tableWriteTurn d table c at s .display)
+    go : (t : Bool) → eqb (writeAnswer c (d .table .len) at (length s)) done ≡ t → Sound (tableWriteTurn d table c at s .display)
     go false h = rw h z
     go true h =
-        let fits = write-accepted c (d .table .length) at (length s) (eqb-true _ _ h) .2 in
+        let fits = write-accepted c (d .table .len) at (length s) (eqb-true _ _ h) .2 in
         rw h
         (record {
           settings = z .settings;
           low = z .low;
           high = z .high;
           text = z .text;
-          room = length-in-room (d .table .length) at (length s) (z .room) fits;
+          room = length-in-room (d .table .len) at (length s) (z .room) fits;
           capabilities = z .capabilities;
           table = inl refl;
         })
@@ -151,9 +151,9 @@ after-turn : (d : Display) (lent table message : List ℕ) → Bytes message →
 unfolding getTurn setTurn saveTurn
 after-turn d lent table message b z false r e = z
 after-turn d lent table message b z true (refused k) e = z
-after-turn d lent table message b z true (ok (get c)) e = z
-after-turn d lent table message b z true (ok (set c v)) e =
-    let v′ : Valid requests (set c v) = requests-round .valid toDisplay message (set c v) b e in
+after-turn d lent table message b z true (ok (getFeature c)) e = z
+after-turn d lent table message b z true (ok (setFeature c v)) e =
+    let v′ : Valid requests (setFeature c v) = requests-round .valid toDisplay message (setFeature c v) b e in
     with-settings d _ z (set-keeps-sound (d .settings) c v (code-fits (v′ .bytesFit)) (z .settings))
 after-turn d lent table message b z true (ok timing) e = after-timing d table z
 after-turn d lent table message b z true (ok save) e = with-settings d _ z (save-keeps-sound (d .settings) (z .settings))

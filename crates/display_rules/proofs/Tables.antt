@@ -9,7 +9,7 @@ use lib.Seq.{length-take-le, take-at, drop-at, take-add, take-append-add, take-t
 use lib.Dec.{eqb, ltb}
 use borrow.Author.Tests.{eqb-true, le-leb, ltb-true, ltb-false}
 use Rattle.message_rules.specs.Answer.{done, wrongSize, wrongField, codeNotAllowed}
-use Rattle.message_rules.specs.Message.{Request, get, set, timing, save, text, tableRead, tableWrite, requests, decode, null, toDisplay, toHost}
+use Rattle.message_rules.specs.Message.{Request, getFeature, setFeature, timing, save, text, tableRead, tableWrite, requests, decode, null, toDisplay, toHost}
 use Rattle.message_rules.specs.Read.{Read, ok, refused}
 use Rattle.message_rules.specs.Message.{tableCode}
 use Rattle.settings.specs.Settings.{reservedBits, timingIn}
@@ -92,9 +92,9 @@ pub writes-go-in : WritesGoIn step
 unfolding step turn tableWriteTurn
 writes-go-in d lent table message out at s m w r begins ends =
     let e : Lent d (length lent) (length table) (length out) = lent-sizes d (length lent) (length table) (length out) w in
-    let room : d .table .length ≤ tableRoom = made-is-sound d m .room in
-    rw (w, r, accepts (d .table .length) at (length s) begins ends)
-    (refl, after-is table s (d .table .length) at begins (omega (arith, e .table)), refl)
+    let room : d .table .len ≤ tableRoom = made-is-sound d m .room in
+    rw (w, r, accepts (d .table .len) at (length s) begins ends)
+    (refl, after-is table s (d .table .len) at begins (omega (arith, e .table)), refl)
 
 -- ---- other messages
 
@@ -111,9 +111,9 @@ table-read-keeps d lent table c q = go (eqb c tableCode)
 
 table-write-keeps : (d : Display) (lent table : List ℕ) (c at : ℕ) (s : List ℕ) → Keeps Capabilities d lent table (tableWriteTurn d table c at s)
 unfolding tableWriteTurn
-table-write-keeps d lent table c at s = go (eqb (writeAnswer c (d .table .length) at (length s)) done) refl
+table-write-keeps d lent table c at s = go (eqb (writeAnswer c (d .table .len) at (length s)) done) refl
   where
-    go : (t : Bool) → eqb (writeAnswer c (d .table .length) at (length s)) done ≡ t → Keeps Capabilities d lent table (tableWriteTurn d table c at s)
+    go : (t : Bool) → eqb (writeAnswer c (d .table .len) at (length s)) done ≡ t → Keeps Capabilities d lent table (tableWriteTurn d table c at s)
     go true h = rw h (refl, refl)
     go false h = rw h (refl, refl)
 
@@ -134,8 +134,8 @@ keeps : (k : TextKind) (d : Display) (lent table : List ℕ) (w : Bool) (r : Rea
 unfolding getTurn readTurn
 keeps k d lent table false r h = (refl, refl)
 keeps k d lent table true (refused n) h = (refl, refl)
-keeps k d lent table true (ok (get c)) h = (refl, refl)
-keeps k d lent table true (ok (set c v)) h = settings-keep k d lent table c v .0
+keeps k d lent table true (ok (getFeature c)) h = (refl, refl)
+keeps k d lent table true (ok (setFeature c v)) h = settings-keep k d lent table c v .0
 keeps k d lent table true (ok timing) h = timing-keeps k d lent table
 keeps k d lent table true (ok save) h = settings-keep k d lent table 0 0 .1
 keeps Capabilities d lent table true (ok (text q)) h = absurd (true≢false h)

@@ -15,7 +15,7 @@ use Rattle.display_rules.specs.declared.Display.{Display}
 pub record Lent (d : Display) (lent t b : ℕ) : Type 0 where
   pub out : outputRoom ≤ b
   pub table : t ≡ tableRoom
-  pub text : lent ≡ d .capabilities .length
+  pub text : lent ≡ d .capabilities .len
 
 pub lent-sizes : (d : Display) (lent table out : ℕ) → lentWell d lent table out ≡ true → Lent d lent table out
 lent-sizes d lent table out h =

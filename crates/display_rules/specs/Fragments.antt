@@ -23,11 +23,11 @@ lesser a b = cond (ltb a b) a b
 
 -- "Offset 0: the place's offset is 0. Equal to the place's offset: send that piece again. Equal to offset + length: move there. Otherwise go to 0."
 unfoldable pub nextOffset : FragmentCursor → ℕ → ℕ
-nextOffset c q = cond (eqb q (c .offset .0) || eqb q (c .offset .0 + c .length)) q 0
+nextOffset c q = cond (eqb q (c .offset .0) || eqb q (c .offset .0 + c .len)) q 0
 
 -- "The piece is the next min(piece size, bytes left) bytes; at the end it has none."
 unfoldable pub nextCursor : (size : ℕ) → TextState → ℕ → FragmentCursor
-nextCursor p t q = cursorAt (nextOffset (t .cursor) q) (lesser p (t .length - nextOffset (t .cursor) q))
+nextCursor p t q = cursorAt (nextOffset (t .cursor) q) (lesser p (t .len - nextOffset (t .cursor) q))
 
 -- the fragment size, which is 1 to 32 on every display that a start has made; no display sends more
 abbrev pub fragmentSize : Display → ℕ
@@ -35,7 +35,7 @@ fragmentSize d = lesser (d .size) mostFragment
 
 -- the bytes of a text at a cursor
 abbrev pub fragmentAt : List ℕ → FragmentCursor → List ℕ
-fragmentAt s c = take (c .length) (drop (c .offset .0) s)
+fragmentAt s c = take (c .len) (drop (c .offset .0) s)
 
 -- "whichever of the two lent texts was asked for"; the table stands at the start of its buffer
 abbrev pub lentText : TextKind → (text table : List ℕ) → List ℕ

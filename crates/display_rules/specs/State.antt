@@ -20,7 +20,7 @@ use Rattle.display_rules.specs.declared.Changed.{Changed}
 -- ---- the state and its parts
 
 abbrev pub cursorAt : (offset length : ℕ) → FragmentCursor
-cursorAt o n = record { offset = record { 0 = o }; length = n }
+cursorAt o n = record { offset = record { 0 = o }; len = n }
 
 -- "an offset and the length of the last piece, both 0 at first"
 abbrev pub startingCursor : FragmentCursor
@@ -28,7 +28,7 @@ startingCursor = cursorAt 0 0
 
 -- a text of so many bytes of which nothing was sent
 abbrev pub unsent : ℕ → TextState
-unsent n = record { length = n; cursor = startingCursor }
+unsent n = record { len = n; cursor = startingCursor }
 
 abbrev pub textState : TextKind → Display → TextState
 textState Capabilities d = d .capabilities
@@ -48,8 +48,8 @@ abbrev pub withCapabilities : Display → TextState → Display
 withCapabilities d t = record { settings = d .settings; capabilities = t; table = d .table; size = d .size }
 
 abbrev pub withCursor : TextKind → Display → FragmentCursor → Display
-withCursor Capabilities d c = withCapabilities d (record { length = d .capabilities .length; cursor = c })
-withCursor Table d c = withTable d (record { length = d .table .length; cursor = c })
+withCursor Capabilities d c = withCapabilities d (record { len = d .capabilities .len; cursor = c })
+withCursor Table d c = withTable d (record { len = d .table .len; cursor = c })
 
 -- ---- the start
 

@@ -10,7 +10,7 @@ use Rattle.checksum.specs.Bytes.{Bytes}
 use Rattle.codes.specs.Codes.{allCodes, howMany, countOf}
 use Rattle.message_rules.specs.Answer.{done, unknownCommand, codeNotAllowed}
 use Rattle.message_rules.specs.Limits.{mostFragment}
-use Rattle.message_rules.specs.Message.{Request, get, set, timing, save, text, tableRead, tableWrite, requests, encode, decode, toDisplay}
+use Rattle.message_rules.specs.Message.{Request, getFeature, setFeature, timing, save, text, tableRead, tableWrite, requests, encode, decode, toDisplay}
 use Rattle.message_rules.specs.Read.{Read, ok, refused}
 use Rattle.message_builder.specs.Output.{over}
 use Rattle.profile_rules.specs.Profile.{loadProfile}
@@ -39,8 +39,8 @@ StepRule = Display → (lent table message out : List ℕ) → Outcome
 -- ---- a refusal leaves what the table of answers says
 
 abbrev pub isTableRead : Read Request → Bool
-isTableRead (ok (get c)) = false
-isTableRead (ok (set c v)) = false
+isTableRead (ok (getFeature c)) = false
+isTableRead (ok (setFeature c v)) = false
 isTableRead (ok timing) = false
 isTableRead (ok save) = false
 isTableRead (ok (text q)) = false
@@ -61,7 +61,7 @@ pub record NothingChanged (d : Display) (t b : List ℕ) (r : Read Request) (o :
   pub display : o .display ≡ d
   pub table : o .table ≡ t
   pub found : o .found ≡ Nothing
-  pub length : o .length ≡ cond (nullDue r (o .answer)) 3 0
+  pub len : o .len ≡ cond (nullDue r (o .answer)) 3 0
   pub out : o .out ≡ cond (nullDue r (o .answer)) (over nullBytes b) b
 
 abbrev pub RefusalsChangeNothing : StepRule → Type 0
@@ -79,14 +79,14 @@ pub data Made (step : StepRule) : Display → Type 0 where
 
 -- a text of which nothing was sent, or the last fragment had "the next min(piece size, bytes left) bytes"
 abbrev pub Placed : (size : ℕ) → TextState → Type 0
-Placed p t = (t .cursor ≡ startingCursor) ⊎ (t .cursor .length ≡ lesser p (t .length - t .cursor .offset .0))
+Placed p t = (t .cursor ≡ startingCursor) ⊎ (t .cursor .len ≡ lesser p (t .len - t .cursor .offset .0))
 
 pub record Sound (d : Display) : Type 0 where
   pub settings : entries.Sound (d .settings)
   pub low : 1 ≤ d .size
   pub high : d .size ≤ mostFragment
-  pub text : d .capabilities .length ≤ longestText
-  pub room : d .table .length ≤ tableRoom
+  pub text : d .capabilities .len ≤ longestText
+  pub room : d .table .len ≤ tableRoom
   pub capabilities : Placed (d .size) (d .capabilities)
   pub table : Placed (d .size) (d .table)
 
@@ -98,7 +98,7 @@ MadeIsSound step = (d : Display) → Made step d → Sound d
 -- a whole text: the capabilities string as it is lent, or the first bytes of the table's buffer
 abbrev pub whole : TextKind → Display → (lent table : List ℕ) → List ℕ
 whole Capabilities d lent table = lent
-whole Table d lent table = take (d .table .length) table
+whole Table d lent table = take (d .table .len) table
 
 -- the request for a fragment at q
 abbrev pub asksFor : TextKind → ℕ → Request
@@ -113,14 +113,14 @@ pub record Reads (k : TextKind) (d : Display) (lent table out : List ℕ) (q : �
   -- "Equal to the place's offset: send that piece again."
   pub again : (q ≡ 0 → ⊥) → q ≡ cursorOf k d .offset .0 → cursorOf k (o .display) ≡ cursorOf k d
   -- "Equal to offset + length: move there."
-  pub next : q ≡ cursorOf k d .offset .0 + cursorOf k d .length → cursorOf k (o .display) .offset .0 ≡ q
+  pub next : q ≡ cursorOf k d .offset .0 + cursorOf k d .len → cursorOf k (o .display) .offset .0 ≡ q
   -- "Otherwise go to 0."
-  pub other : (q ≡ cursorOf k d .offset .0 → ⊥) → (q ≡ cursorOf k d .offset .0 + cursorOf k d .length → ⊥) → cursorOf k (o .display) .offset .0 ≡ 0
+  pub other : (q ≡ cursorOf k d .offset .0 → ⊥) → (q ≡ cursorOf k d .offset .0 + cursorOf k d .len → ⊥) → cursorOf k (o .display) .offset .0 ≡ 0
   -- "The piece is the next min(piece size, bytes left) bytes; at the end it has none."
-  pub size : cursorOf k (o .display) .length ≡ lesser (d .size) (length (whole k d lent table) - cursorOf k (o .display) .offset .0)
+  pub size : cursorOf k (o .display) .len ≡ lesser (d .size) (length (whole k d lent table) - cursorOf k (o .display) .offset .0)
   -- "The reply carries the place's new offset" and the bytes from there
-  pub sent : take (o .length) (o .out) ≡ bytesOf (fragmentReply k (cursorOf k (o .display)) (fragmentAt (whole k d lent table) (cursorOf k (o .display))))
-  pub rest : drop (o .length) (o .out) ≡ drop (o .length) out
+  pub sent : take (o .len) (o .out) ≡ bytesOf (fragmentReply k (cursorOf k (o .display)) (fragmentAt (whole k d lent table) (cursorOf k (o .display))))
+  pub rest : drop (o .len) (o .out) ≡ drop (o .len) out
   -- "The piece found is handed back as a part of whichever of the two lent texts was asked for."
   pub handed : foundBytes lent (o .table) (o .found) ≡ fragmentAt (whole k d lent table) (cursorOf k (o .display))
   -- the text is as it was
@@ -133,8 +133,8 @@ ReadsFollow step = (k : TextKind) (d : Display) (lent table out : List ℕ) (q :
 
 -- the messages that move the cursor of a text or change it
 abbrev pub touches : TextKind → Read Request → Bool
-touches k (ok (get c)) = false
-touches k (ok (set c v)) = false
+touches k (ok (getFeature c)) = false
+touches k (ok (setFeature c v)) = false
 touches k (ok timing) = false
 touches k (ok save) = false
 touches Capabilities (ok (text q)) = true
@@ -161,7 +161,7 @@ tableAfter table at s = cond (eqb at 0) s (written table at s)
 abbrev pub WritesGoIn : StepRule → Type 0
 WritesGoIn step = (d : Display) (lent table message out : List ℕ) (at : ℕ) (s : List ℕ)
     → Made step d → lentWell d (length lent) (length table) (length out) ≡ true → decode requests toDisplay message ≡ ok (tableWrite tableCode at s)
-    → at ≤ d .table .length → at + length s ≤ tableRoom
+    → at ≤ d .table .len → at + length s ≤ tableRoom
     → (step d lent table message out .answer ≡ done)
     × (whole Table (step d lent table message out .display) lent (step d lent table message out .table) ≡ tableAfter (whole Table d lent table) at s)
     × (cursorOf Table (step d lent table message out .display) ≡ startingCursor)

@@ -6,7 +6,7 @@ use lib.ListN.{length}
 use lib.Dec.{eqb, leb}
 use Rattle.message_rules.specs.Answer.{wrongSize, unknownCommand}
 use Rattle.message_rules.specs.Limits.{outputRoom}
-use Rattle.message_rules.specs.Message.{Request, get, set, timing, save, text, tableRead, tableWrite, requests, decode, null, toDisplay, toHost}
+use Rattle.message_rules.specs.Message.{Request, getFeature, setFeature, timing, save, text, tableRead, tableWrite, requests, decode, null, toDisplay, toHost}
 use Rattle.message_rules.specs.Read.{Read, ok, refused}
 use Rattle.message_builder.specs.Output.{over}
 use Rattle.display_rules.specs.Limits.{tableRoom}
@@ -20,8 +20,8 @@ use Rattle.display_rules.specs.declared.Stepped.{Stepped}
 
 -- the rules by message
 abbrev pub obey : Display → (lent table : List ℕ) → Request → Turn
-obey d lent table (get c) = getTurn d table c
-obey d lent table (set c v) = setTurn d table c v
+obey d lent table (getFeature c) = getTurn d table c
+obey d lent table (setFeature c v) = setTurn d table c v
 obey d lent table timing = timingTurn d table
 obey d lent table save = saveTurn d table
 obey d lent table (text q) = readTurn Capabilities d lent table q
@@ -38,7 +38,7 @@ abbrev pub lentSizes : (starting lent table out : ℕ) → Bool
 lentSizes starting lent table out = leb outputRoom out && (eqb table tableRoom && eqb lent starting)
 
 abbrev pub lentWell : Display → (lent table out : ℕ) → Bool
-lentWell d = lentSizes (d .capabilities .length)
+lentWell d = lentSizes (d .capabilities .len)
 
 -- "Order: .. then 1, then 2, 3, 4, 5, then .. 6, 7, then the operation's own"
 unfoldable pub turn : Display → (lent table message out : List ℕ) → Turn
@@ -51,7 +51,7 @@ turn d lent table message out =
 pub record Outcome : Type 0 where
   pub display : Display
   pub answer : ℕ
-  pub length : ℕ
+  pub len : ℕ
   pub found : Found
   pub table : List ℕ
   pub out : List ℕ
@@ -61,7 +61,7 @@ abbrev pub outcome : Turn → List ℕ → Outcome
 outcome t out = record {
   display = t .display;
   answer = t .answer;
-  length = length (t .reply);
+  len = length (t .reply);
   found = t .found;
   table = t .table;
   out = over (t .reply) out;
@@ -75,7 +75,7 @@ abbrev pub left : Stepped → (table out : List ℕ) → Outcome
 left r table out = record {
   display = r .display;
   answer = r .answer;
-  length = r .length;
+  len = r .len;
   found = r .found;
   table = table;
   out = out;

@@ -30,6 +30,6 @@ written table at s = take at table ++ (s ++ drop (at + length s) table)
 -- "The list's place becomes 0, 0. No reply."
 unfoldable pub tableWriteTurn : Display → List ℕ → (code at : ℕ) → List ℕ → Turn
 tableWriteTurn d table c at s =
-    cond (eqb (writeAnswer c (d .table .length) at (length s)) done)
-    (accepted (withTable d (unsent (lengthAfter (d .table .length) at (length s)))) (written table at s) noReply)
-    (refusal (writeAnswer c (d .table .length) at (length s)) d table noReply)
+    cond (eqb (writeAnswer c (d .table .len) at (length s)) done)
+    (accepted (withTable d (unsent (lengthAfter (d .table .len) at (length s)))) (written table at s) noReply)
+    (refusal (writeAnswer c (d .table .len) at (length s)) d table noReply)

@@ -9,13 +9,13 @@ use settings::Settings;
 #[repr(C)]
 pub struct FragmentCursor {
     pub offset: TextOffset,
-    pub length: u16,
+    pub len: u16,
 }
 
 // What a display keeps of one of its texts: the text's length, and its fragment cursor. The bytes are lent to each step.
 #[repr(C)]
 pub struct TextState {
-    pub length: u16,
+    pub len: u16,
     pub cursor: FragmentCursor,
 }
 
@@ -45,6 +45,6 @@ pub enum Found {
 pub struct Stepped {
     pub display: Display,
     pub answer: u8,
-    pub length: usize,
+    pub len: usize,
     pub found: Found,
 }

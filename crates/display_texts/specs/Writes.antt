@@ -18,5 +18,5 @@ answerIn room old code at n = unless (leb tableRoom room) wrongSize (writeAnswer
 -- length and bytes change where the answer is 0
 pub record Writes (old code at : ℕ) (s before after : List ℕ) (w : Writing) : Type 0 where
   pub answers : w .answer ≡ answerIn (length before) old code at (length s)
-  pub lengthens : w .length ≡ cond (eqb (w .answer) done) (lengthAfter old at (length s)) old
+  pub lengthens : w .len ≡ cond (eqb (w .answer) done) (lengthAfter old at (length s)) old
   pub leaves : after ≡ cond (eqb (w .answer) done) (written before at s) before

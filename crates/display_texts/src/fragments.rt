@@ -22,7 +22,7 @@ fn next_offset(c: FragmentCursor, q: TextOffset) -> TextOffset
     if q.0 == at.0 {
         return q;
     }
-    if q.0 as u32 == at.0 as u32 + c.length as u32 {
+    if q.0 as u32 == at.0 as u32 + c.len as u32 {
         return q;
     }
     TextOffset(0)
@@ -34,17 +34,14 @@ pub fn next_cursor(size: u16, t: TextState, q: TextOffset) -> FragmentCursor
 {
     let cursor = t.cursor;
     let at = next_offset(cursor, q);
-    if at.0 < t.length {
-        let length = lesser(size, t.length - at.0);
+    if at.0 < t.len {
+        let length = lesser(size, t.len - at.0);
         return FragmentCursor {
             offset: at,
-            length: length,
+            len: length,
         };
     }
-    FragmentCursor {
-        offset: at,
-        length: 0,
-    }
+    FragmentCursor { offset: at, len: 0 }
 }
 
 // The n bytes of a slice from a number on, or those of them that there are.
@@ -69,7 +66,7 @@ pub fn handed_back<'a>(text: &'a [u8], table: &'a [u8], found: Found) -> &'a [u8
         Found::Fragment(kind, cursor) => {
             let offset = cursor.offset;
             let from = offset.0 as usize;
-            let n = cursor.length as usize;
+            let n = cursor.len as usize;
             match kind {
                 TextKind::Capabilities => part(text, from, n),
                 TextKind::Table => part(table, from, n),

@@ -16,7 +16,7 @@ use message_rules::answer;
 // What a write comes to: an answer number, and the table's length afterwards.
 pub struct Writing {
     pub answer: u8,
-    pub length: u16,
+    pub len: u16,
 }
 
 // A text of which nothing was sent.
@@ -24,10 +24,10 @@ pub fn unsent(length: u16) -> TextState
     ensures { λ r. ⌜ r ≡ unsent length ⌝ }
 {
     TextState {
-        length: length,
+        len: length,
         cursor: FragmentCursor {
             offset: TextOffset(0),
-            length: 0,
+            len: 0,
         },
     }
 }
@@ -75,7 +75,7 @@ pub fn write(old: u16, table: &mut [u8], code: u8, at: TextOffset, data: &[u8]) 
     if table.len() < TABLE_ROOM {
         return Writing {
             answer: answer::WRONG_SIZE,
-            length: old,
+            len: old,
         };
     }
     let answer = write_answer(code, old, at.0, data.len());
@@ -84,11 +84,11 @@ pub fn write(old: u16, table: &mut [u8], code: u8, at: TextOffset, data: &[u8]) 
         let length = length_after(old, at.0, data.len() as u16);
         return Writing {
             answer: answer,
-            length: length,
+            len: length,
         };
     }
     Writing {
         answer: answer,
-        length: old,
+        len: old,
     }
 }

@@ -28,7 +28,7 @@ struct Bench {
     display: Display,
     table: [u8; TABLE_ROOM],
     reply: [u8; OUTPUT_ROOM],
-    length: usize,
+    len: usize,
     answer: u8,
 }
 
@@ -59,7 +59,7 @@ fn started() -> Bench {
         display: display,
         table: [0u8; TABLE_ROOM],
         reply: [0u8; OUTPUT_ROOM],
-        length: 0,
+        len: 0,
         answer: s.answer,
     }
 }
@@ -80,7 +80,7 @@ fn step(mut b: Bench, m: [u8; OUTPUT_ROOM], built: Built) -> Bench {
     b.display = after;
     b.table = table;
     b.reply = out;
-    b.length = s.length;
+    b.len = s.len;
     b.answer = s.answer;
     b
 }
@@ -135,7 +135,7 @@ fn expected() -> [u8; TABLE_ROOM] {
 
 // Whether the reply's data are these bytes.
 fn carries(b: Bench, data: &[u8]) -> bool {
-    if b.length != data.len() + FRAGMENT_HEAD + 1 {
+    if b.len != data.len() + FRAGMENT_HEAD + 1 {
         return false;
     }
     let reply = b.reply;

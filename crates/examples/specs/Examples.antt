@@ -6,7 +6,7 @@ use lib.ListN.{length}
 use mathlib.Core.Bool.{true}
 use Rattle.message_rules.specs.Answer.{done, wrongGrammar}
 use Rattle.message_rules.specs.Read.{ok}
-use Rattle.message_rules.specs.Message.{Request, get, set, timing, save, text, Reply, value, timingReply, textFragment, requests, replies, encode, decode, toDisplay, toHost}
+use Rattle.message_rules.specs.Message.{Request, getFeature, setFeature, timing, save, text, Reply, value, timingReply, textFragment, requests, replies, encode, decode, toDisplay, toHost}
 use Rattle.capabilities_rules.specs.Limits.{mostNodes, noParent}
 use Rattle.capabilities_rules.specs.Nodes.{nodesOf}
 use Rattle.capabilities_rules.specs.Outcome.{refused, outcome}
@@ -49,9 +49,9 @@ All (x ∷ xs) = Holds x × All xs
 abbrev pub examples : List Example
 examples =
     -- "Get 10"
-    sent (get 0x10) (0x51 ∷ 0x82 ∷ 0x01 ∷ 0x10 ∷ 0xAC ∷ [])
+    sent (getFeature 0x10) (0x51 ∷ 0x82 ∷ 0x01 ∷ 0x10 ∷ 0xAC ∷ [])
     -- "Set 10 to 100"
-    ∷ sent (set 0x10 100) (0x51 ∷ 0x84 ∷ 0x03 ∷ 0x10 ∷ 0x00 ∷ 0x64 ∷ 0xCC ∷ [])
+    ∷ sent (setFeature 0x10 100) (0x51 ∷ 0x84 ∷ 0x03 ∷ 0x10 ∷ 0x00 ∷ 0x64 ∷ 0xCC ∷ [])
     -- source 003: Timing and Save
     ∷ sent timing (0x51 ∷ 0x81 ∷ 0x07 ∷ 0xB9 ∷ [])
     ∷ sent save (0x51 ∷ 0x81 ∷ 0x0C ∷ 0xB2 ∷ [])

@@ -66,7 +66,7 @@ fn set(h: Host, value: u16) -> Host {
 // What a reply to a Get says. A reply that the line has spoiled says nothing.
 fn heard(h: Host) -> Got {
     let reply = h.reply;
-    match read_display_reply(front(&reply, h.length)) {
+    match read_display_reply(front(&reply, h.len)) {
         ReplyRead::Value(_, _, _, _, present) => Got {
             host: h,
             came: true,

@@ -34,7 +34,7 @@ pub(crate) struct Host {
     pub(crate) records: u64,
     pub(crate) answer: u8,
     pub(crate) reply: [u8; OUTPUT_ROOM],
-    pub(crate) length: usize,
+    pub(crate) len: usize,
     pub(crate) fault: u8,
 }
 
@@ -43,7 +43,7 @@ pub(crate) fn fresh() -> Host {
         records: 0,
         answer: DONE,
         reply: [0u8; OUTPUT_ROOM],
-        length: 0,
+        len: 0,
         fault: NONE,
     }
 }
@@ -83,14 +83,14 @@ fn read_head(mut h: Host) -> Host {
     let mut head = [0u8; HEAD];
     let got = io::read_full(STDIN_FILENO, &mut head);
     h.answer = head[0];
-    h.length = word(head[1], head[2]);
+    h.len = word(head[1], head[2]);
     h.fault = head_fault(got);
     h
 }
 
 fn read_reply(mut h: Host) -> Host {
     let mut reply = [0u8; OUTPUT_ROOM];
-    let length = h.length;
+    let length = h.len;
     if OUTPUT_ROOM < length {
         return faulty(h, TOO_LONG);
     }
@@ -130,7 +130,7 @@ pub(crate) fn tell(mut h: Host, kind: u8, body: &[u8]) -> Host {
     if h.answer != DONE {
         return faulty(h, REFUSED);
     }
-    if h.length != 0 {
+    if h.len != 0 {
         return faulty(h, NOT_DUE);
     }
     h

@@ -50,7 +50,7 @@ fn receive(mut r: Reading, h: Host) -> Reading {
     let before = r.transfer;
     let reply = h.reply;
     let mut buffer = r.buffer;
-    let received = transfer::receive(before, &mut buffer, front(&reply, h.length));
+    let received = transfer::receive(before, &mut buffer, front(&reply, h.len));
     let after = received.transfer;
     r.transfer = after;
     r.buffer = buffer;

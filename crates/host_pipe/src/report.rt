@@ -25,13 +25,13 @@ fn wrong(h: Host) {
         pipe::TOO_LONG => show::counted(
             TO,
             b" has ",
-            h.length as u64,
+            h.len as u64,
             b" bytes, and a reply at most 38: see that the other end is display_pipe\n",
         ),
         pipe::NOT_DUE => show::counted(
             TO,
             b" has ",
-            h.length as u64,
+            h.len as u64,
             b" bytes where no reply is due: see that the other end is display_pipe\n",
         ),
         pipe::REFUSED => show::answered(TO, b" is refused: ", h.answer),

@@ -1,5 +1,5 @@
 // Requests: the messages to the display.
-ghost use Rattle.message_rules.specs.Message.{requests, get, set, timing, save, text, tableRead, tableWrite};
+ghost use Rattle.message_rules.specs.Message.{requests, getFeature, setFeature, timing, save, text, tableRead, tableWrite};
 ghost use Rattle.message_builder.specs.Output.{BuildsMessage};
 use crate::Built;
 use crate::output;
@@ -8,14 +8,14 @@ use message_rules::TextOffset;
 use message_rules::limits;
 
 pub fn build_get(a: Address, code: u8, out: &mut [u8]) -> Built
-    ensures { λ r. ⌜ BuildsMessage requests a (get code) (now (out .entry)) (now (out .exit)) r ⌝ }
+    ensures { λ r. ⌜ BuildsMessage requests a (getFeature code) (now (out .entry)) (now (out .exit)) r ⌝ }
 {
     let head = [a.first, 0x82, 0x01, code];
     output::build(a.seed, &head, b"", out)
 }
 
 pub fn build_set(a: Address, code: u8, value: u16, out: &mut [u8]) -> Built
-    ensures { λ r. ⌜ BuildsMessage requests a (set code value) (now (out .entry)) (now (out .exit)) r ⌝ }
+    ensures { λ r. ⌜ BuildsMessage requests a (setFeature code value) (now (out .entry)) (now (out .exit)) r ⌝ }
 {
     let head = [
         a.first,

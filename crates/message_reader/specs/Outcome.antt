@@ -7,7 +7,7 @@ use Rattle.message_rules.specs.Read.{Read, ok, refused}
 use Rattle.message_rules.specs.Row as row
 use Rattle.message_rules.specs.Layout.{layoutOf, least}
 use Rattle.message_rules.specs.Frame.{bodyLength}
-use Rattle.message_rules.specs.Message.{decode, requests, replies, Request, get, set, timing, save, text, tableRead, tableWrite, Reply, value, timingReply, textFragment, tableFragment}
+use Rattle.message_rules.specs.Message.{decode, requests, replies, Request, getFeature, setFeature, timing, save, text, tableRead, tableWrite, Reply, value, timingReply, textFragment, tableFragment}
 use Rattle.message_rules.specs.declared.Address.{Address}
 use Rattle.message_rules.specs.declared.Position.{Position}
 use Rattle.message_reader.specs.declared.RequestRead.{RequestRead}
@@ -26,8 +26,8 @@ partOf s at n = take n (drop (at .0) s)
 
 -- the message, or the number of the refusal, that a result stands for
 abbrev pub requestIn : List ℕ → RequestRead → Read Request
-requestIn s (requestRead.Get c) = ok (get c)
-requestIn s (requestRead.Set c v) = ok (set c v)
+requestIn s (requestRead.Get c) = ok (getFeature c)
+requestIn s (requestRead.Set c v) = ok (setFeature c v)
 requestIn s requestRead.Timing = ok timing
 requestIn s requestRead.Save = ok save
 requestIn s (requestRead.Text o) = ok (text (o .0))

@@ -16,7 +16,7 @@ use Rattle.message_rules.specs.declared.ReplyKind.the-variants.{Value, T
 use Rattle.message_rules.specs.Read.{Read, ok, refused}
 use Rattle.message_rules.specs.Layout.{directionOf, layoutOf}
 use Rattle.message_rules.specs.Body.{Body, ValidBody}
-use Rattle.message_rules.specs.Message.{Request, get, set, timing, save, text, tableRead, tableWrite, Reply, value, timingReply, textFragment, tableFragment, requestOf, replyOf, requestAs, replyAs, Reading, asMessage, requests, replies}
+use Rattle.message_rules.specs.Message.{Request, getFeature, setFeature, timing, save, text, tableRead, tableWrite, Reply, value, timingReply, textFragment, tableFragment, requestOf, replyOf, requestAs, replyAs, Reading, asMessage, requests, replies}
 
 -- ---- a body's fields by their places, as a typed reading names them
 
@@ -73,8 +73,8 @@ never : {M : Type 0} {A : Type 0} (k : ℕ) (m : M) → refused k ≡ ok m → A
 never k m e = let z : _≡_ {A = ℕ} 0 1 = cc in absurd (omega arith)
 
 request-there : (m : Request) → asMessage requests (requests .bodyFor m) ≡ ok m
-request-there (get c) = refl
-request-there (set c v) = refl
+request-there (getFeature c) = refl
+request-there (setFeature c v) = refl
 request-there timing = refl
 request-there save = refl
 request-there (text o) = refl

@@ -20,8 +20,8 @@ use Rattle.message_rules.specs.declared.ReplyKind.the-variants.{Value, T
 
 -- "to board"
 pub data Request : Type 0 where
-  get : (code : ℕ) → Request
-  set : (code value : ℕ) → Request
+  getFeature : (code : ℕ) → Request
+  setFeature : (code value : ℕ) → Request
   timing : Request
   save : Request
   text : (offset : ℕ) → Request
@@ -45,8 +45,8 @@ abbrev pub body : Kind → List ℕ → List ℕ → List ℕ → Body
 body c bytes words rest = record { kind = c; bytes = bytes; words = words; rest = rest }
 
 abbrev pub requestBody : Request → Body
-requestBody (get c) = body (kind.Request Get) (c ∷ []) [] []
-requestBody (set c v) = body (kind.Request Set) (c ∷ []) (v ∷ []) []
+requestBody (getFeature c) = body (kind.Request Get) (c ∷ []) [] []
+requestBody (setFeature c v) = body (kind.Request Set) (c ∷ []) (v ∷ []) []
 requestBody timing = body (kind.Request Timing) [] [] []
 requestBody save = body (kind.Request Save) [] [] []
 requestBody (text o) = body (kind.Request Text) [] (o ∷ []) []
@@ -61,8 +61,8 @@ replyBody (tableFragment o data′) = body (kind.Reply TableFragment) [] (o ∷ 
 
 -- the message of a kind, from its bytes, words and data
 abbrev pub requestOf : RequestKind → List ℕ → List ℕ → List ℕ → Request
-requestOf Get b w r = get (getD b 0 0)
-requestOf Set b w r = set (getD b 0 0) (getD w 0 0)
+requestOf Get b w r = getFeature (getD b 0 0)
+requestOf Set b w r = setFeature (getD b 0 0) (getD w 0 0)
 requestOf Timing b w r = timing
 requestOf Save b w r = save
 requestOf Text b w r = text (getD w 0 0)

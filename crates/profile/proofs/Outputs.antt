@@ -104,11 +104,11 @@ profile-size s ws n e f =
     (omega (arith, records-length (s .saved) (profileCodes s)), omega arith)
 
 module _ (s : Settings) (out : List ℕ) where
-  pub write-refused : length out < length (profileOf s) → record { result = record { answer = wrongSize; length = 0 }; output = out } ≡ writeProfile s out
+  pub write-refused : length out < length (profileOf s) → record { result = record { answer = wrongSize; len = 0 }; output = out } ≡ writeProfile s out
   unfolding writeProfile
   write-refused h = rw (lt-leb (length (profileOf s)) (length out) h)
 
   pub write-done : (n : ℕ) (after : List ℕ) → n ≡ length (profileOf s) → n ≤ length out → after ≡ put out 0 (profileOf s)
-      → record { result = record { answer = done; length = n }; output = after } ≡ writeProfile s out
+      → record { result = record { answer = done; len = n }; output = after } ≡ writeProfile s out
   unfolding writeProfile
   write-done n after e h f = rw (le-leb (length (profileOf s)) (length out) (omega arith), e, f, put-over out (profileOf s))

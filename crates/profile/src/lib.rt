@@ -101,13 +101,13 @@ pub fn write(s: Settings, out: &mut [u8]) -> Written
     if out.len() < length {
         return Written {
             answer: WRONG_SIZE,
-            length: 0,
+            len: 0,
         };
     }
     put_records(words, &s.saved, out);
     Written {
         answer: DONE,
-        length: length,
+        len: length,
     }
 }
 

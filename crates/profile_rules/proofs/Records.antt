@@ -34,7 +34,7 @@ cut-is-none s h = rw (lt-leb recordSize (length s) h)
 -- what a record has
 pub record Whole (s : List ℕ) : Type 0 where
   pub size : recordSize ≤ length s
-  pub length : wordAt s 0 ≡ recordLength
+  pub len : wordAt s 0 ≡ recordLength
   pub kind : wordAt s 2 ≡ valueKind
 
 pub whole : (s : List ℕ) → beginsWithRecord s ≡ true → Whole s
@@ -42,7 +42,7 @@ unfolding beginsWithRecord
 whole s e =
     let size = both (leb recordSize (length s)) _ e in
     let fields = both (eqb (wordAt s 0) recordLength) (eqb (wordAt s 2) valueKind) (size .1) in
-    record { size = leb-true _ _ (size .0); length = eqb-true _ _ (fields .0); kind = eqb-true _ _ (fields .1) }
+    record { size = leb-true _ _ (size .0); len = eqb-true _ _ (fields .0); kind = eqb-true _ _ (fields .1) }
 
 -- the first seven elements of a list
 seven : (s : List ℕ) → 7 ≤ length s
@@ -59,8 +59,8 @@ seven s h =
 -- bytes that begin with a record are that record and what follows
 pub record-read : (s : List ℕ) → Whole s → Bytes s → s ≡ valueRecord (codeIn s) (valueIn s) ++ drop recordSize s
 record-read s w b =
-    let e0 : getD s 0 0 ≡ 5 = omega (arith, w .length) in
-    let e1 : getD s 1 0 ≡ 0 = omega (arith, w .length) in
+    let e0 : getD s 0 0 ≡ 5 = omega (arith, w .len) in
+    let e1 : getD s 1 0 ≡ 0 = omega (arith, w .len) in
     let e2 : getD s 2 0 ≡ 1 = omega (arith, w .kind) in
     let e3 : getD s 3 0 ≡ 0 = omega (arith, w .kind) in
     let e5 : getD s 5 0 ≡ valueIn s % 256 = omega (arith, bytes-at b 5) in

@@ -60,8 +60,8 @@ pub record Outcome : Type 0 where
 unfoldable pub writeProfile : Settings → List ℕ → Outcome
 writeProfile s out =
     cond (leb (length (profileOf s)) (length out))
-    (record { result = record { answer = done; length = length (profileOf s) }; output = over (profileOf s) out })
-    (record { result = record { answer = wrongSize; length = 0 }; output = out })
+    (record { result = record { answer = done; len = length (profileOf s) }; output = over (profileOf s) out })
+    (record { result = record { answer = wrongSize; len = 0 }; output = out })
 
 -- ---- loading
 

@@ -14,7 +14,7 @@ pub const VALUE_KIND: u16 = 1;
 #[repr(C)]
 pub struct Written {
     pub answer: u8,
-    pub length: usize,
+    pub len: usize,
 }
 
 // What loading answers: the settings afterwards, the number, and the position that document 01 gives with a refusal. After answer 0 it is

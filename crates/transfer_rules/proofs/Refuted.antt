@@ -143,7 +143,7 @@ requesting f = record { begin = begin; request = f; receive = receive }
 
 -- one that sends none
 abbrev ask-none : Transfer → List ℕ → RequestOutcome
-ask-none t output = record { answer = 16; length = 0; output = output }
+ask-none t output = record { answer = 16; len = 0; output = output }
 
 rejects-ask-none : Demand3 (requesting ask-none) → ⊥
 unfolding decode bodyRead frameAnswer

@@ -70,7 +70,7 @@ advance w e o =
 
 -- "A refused asking sends none"
 abbrev pub sentBy : RequestOutcome → Option (List ℕ)
-sentBy a = cond (eqb (a .answer) done) (some (take (a .length) (a .output))) none
+sentBy a = cond (eqb (a .answer) done) (some (take (a .len) (a .output))) none
 
 -- s begins with t
 abbrev pub Begins : List ℕ → List ℕ → Type 0

@@ -49,15 +49,15 @@ begin k size budget =
 -- the answer, the length of the request, and the output afterwards
 pub record RequestOutcome : Type 0 where
   pub answer : ℕ
-  pub length : ℕ
+  pub len : ℕ
   pub output : List ℕ
 
 abbrev notSent : ℕ → List ℕ → RequestOutcome
-notSent n output = record { answer = n; length = 0; output = output }
+notSent n output = record { answer = n; len = 0; output = output }
 
 -- a message at the start of the output; the bytes beyond it stay
 abbrev sentIn : List ℕ → List ℕ → RequestOutcome
-sentIn message output = record { answer = done; length = length message; output = message ++ drop (length message) output }
+sentIn message output = record { answer = done; len = length message; output = message ++ drop (length message) output }
 
 -- "Asking builds the request for the offset it has reached (16 if closed) and counts nothing"; "Every builder needs 38 bytes of output" (else 1)
 abbrev pub request : Transfer → List ℕ → RequestOutcome
@@ -136,7 +136,7 @@ pub record KeepsCoherent : Type 0 where
 -- of request: the answer, the length and every byte of the output
 pub record Requests (x : RequestOutcome) (answer len : ℕ) (output : List ℕ) : Type 0 where
   pub answerIs : answer ≡ x .answer
-  pub lengthIs : len ≡ x .length
+  pub lengthIs : len ≡ x .len
   pub outputIs : output ≡ x .output
 
 -- of receive: the answer, the transfer and every byte of the buffer

@@ -3,7 +3,7 @@
 // A message on the line: its bytes stand in front.
 pub(crate) struct Frame {
     pub(crate) bytes: [u8; ROOM],
-    pub(crate) length: usize,
+    pub(crate) len: usize,
 }
 
 // The bytes of output that a builder needs.
@@ -17,7 +17,7 @@ pub(crate) fn front(s: &[u8], n: usize) -> &[u8] {
 pub(crate) fn silence() -> Frame {
     Frame {
         bytes: [0u8; ROOM],
-        length: 0,
+        len: 0,
     }
 }
 
@@ -33,8 +33,8 @@ pub(crate) fn digit(seed: u64) -> u64 {
 
 // A reply of n bytes without its last one.
 fn cut(mut reply: Frame) -> Frame {
-    if reply.length > 0 {
-        reply.length = reply.length - 1;
+    if reply.len > 0 {
+        reply.len = reply.len - 1;
         return reply;
     }
     reply
@@ -42,7 +42,7 @@ fn cut(mut reply: Frame) -> Frame {
 
 // A reply with a bit of its middle byte turned over.
 fn flipped(mut reply: Frame) -> Frame {
-    let at = reply.length / 2;
+    let at = reply.len / 2;
     let mut bytes = reply.bytes;
     if at < ROOM {
         bytes[at] = bytes[at] ^ 1;

@@ -55,7 +55,7 @@ fn request(t: Transfer) -> Frame {
     let requested = transfer::request(t, &mut out);
     Frame {
         bytes: out,
-        length: requested.len,
+        len: requested.len,
     }
 }
 
@@ -65,7 +65,7 @@ fn turn(mut w: World, s: Setup, text: &[u8]) -> World {
     let before = w.cursor;
     let kind = s.kind;
     let asked = request(t);
-    if asked.length == 0 {
+    if asked.len == 0 {
         let none = line::silence();
         w.reply = none;
         return w;
@@ -82,7 +82,7 @@ fn receive(mut w: World, reply: Frame) -> World {
     let before = w.transfer;
     let bytes = reply.bytes;
     let mut buffer = w.buffer;
-    let received = transfer::receive(before, &mut buffer, line::front(&bytes, reply.length));
+    let received = transfer::receive(before, &mut buffer, line::front(&bytes, reply.len));
     let after = received.transfer;
     w.transfer = after;
     w.buffer = buffer;

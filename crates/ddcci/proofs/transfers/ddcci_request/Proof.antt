@@ -32,13 +32,13 @@ returns c =
     let n = c .before .before .before .before .before .before .before .text-of in
     let g = c .before .before .before .before .before .text .given in
     let r = c .before .before .request-of in
-    subst (λ (x : RequestOutcome). Requests x (r .result) (r .last .1 .1 .0)) (sym (text-known (a .n .phase / 4) (λ t. rules.request (transferOf t (a .n)) (a .out .now)) (record { answer = unknownCommand; length = 0; output = a .out .now }) (n .result) (n .ensures) (g .0 .0) (g .1))) (r .ensures)
+    subst (λ (x : RequestOutcome). Requests x (r .result) (r .last .1 .1 .0)) (sym (text-known (a .n .phase / 4) (λ t. rules.request (transferOf t (a .n)) (a .out .now)) (record { answer = unknownCommand; len = 0; output = a .out .now }) (n .result) (n .ensures) (g .0 .0) (g .1))) (r .ensures)
 
 returns-2 : tie.Need-returns-2
 returns-2 c =
     let a = c .before .before .before .before .before .args in
     let n = c .before .before .text-of in
-    subst (λ (x : RequestOutcome). Requests x (record { answer = unknownCommand; length = 0 }) (a .out .now)) (sym (text-unknown (a .n .phase / 4) (λ t. rules.request (transferOf t (a .n)) (a .out .now)) (record { answer = unknownCommand; length = 0; output = a .out .now }) (n .result) (n .ensures) (c .enum-told .given .1))) (record { answer = refl; length = refl; output = refl })
+    subst (λ (x : RequestOutcome). Requests x (record { answer = unknownCommand; len = 0 }) (a .out .now)) (sym (text-unknown (a .n .phase / 4) (λ t. rules.request (transferOf t (a .n)) (a .out .now)) (record { answer = unknownCommand; len = 0; output = a .out .now }) (n .result) (n .ensures) (c .enum-told .given .1))) (record { answer = refl; len = refl; output = refl })
 
 pub ddcci-request-spec : {M : Type 1} → statement M
 ddcci-request-spec = tie.close (tie.spec text-of-requires enum-known-text request-of-requires enum-told same-length returns returns-2)

@@ -22,8 +22,8 @@ returns c =
     let a = c .before .before .before .before .before .before .args in
     let q = c .before .before .request in
     let e = q .ensures in
-    subst (λ (x : Transfer). Requests (rules.request x (a .out .now)) (record { answer = q .result .answer; length = q .result .len }) (q .last .1 .0)) (c .before .before .before .before .transfer-of .ensures)
-    (record { answer = e .answerIs; length = e .lengthIs; output = e .outputIs })
+    subst (λ (x : Transfer). Requests (rules.request x (a .out .now)) (record { answer = q .result .answer; len = q .result .len }) (q .last .1 .0)) (c .before .before .before .before .transfer-of .ensures)
+    (record { answer = e .answerIs; len = e .lengthIs; output = e .outputIs })
 
 pub request-of-spec : {M : Type 1} → statement M
 request-of-spec = tie.close (tie.spec transfer-of-requires request-requires same-length returns)

@@ -27,7 +27,7 @@ returns-2 c =
     let a = c .before .before .before .before .before .args in
     let o = c .before .before .before .next-offset .result in
     let e : o .0 ≡ nextOffset (a .t .cursor) (a .q .0) = c .before .before .before .next-offset .ensures in
-    let none : a .t .length - o .0 ≡ 0 = omega arith in
+    let none : a .t .len - o .0 ≡ 0 = omega arith in
     rw (← e, none, le-ltb (a .size) 0 (omega arith))
 
 pub next-cursor-spec : {M : Type 1} → statement M

@@ -35,7 +35,7 @@ returns-2 c =
     let f = c .before .before .before .before .before .before .before .before .args .c in
     let q = c .before .before .before .before .before .before .before .before .args .q in
     let h0 : eqb (q .0) (f .offset .0) ≡ false = ne-eqb _ _ (c .before .before .before .before .if1 .left) in
-    let h1 : eqb (q .0) (f .offset .0 + f .length) ≡ true = eq-eqb _ _ (c .if2 .taken) in
+    let h1 : eqb (q .0) (f .offset .0 + f .len) ≡ true = eq-eqb _ _ (c .if2 .taken) in
     rw (h0, h1)
 
 returns-3 : tie.Need-returns-3
@@ -44,7 +44,7 @@ returns-3 c =
     let f = c .before .before .before .before .before .before .before .before .args .c in
     let q = c .before .before .before .before .before .before .before .before .args .q in
     let h0 : eqb (q .0) (f .offset .0) ≡ false = ne-eqb _ _ (c .before .before .before .before .if1 .left) in
-    let h1 : eqb (q .0) (f .offset .0 + f .length) ≡ false = ne-eqb _ _ (c .if2 .left) in
+    let h1 : eqb (q .0) (f .offset .0 + f .len) ≡ false = ne-eqb _ _ (c .if2 .left) in
     rw (h0, h1)
 
 pub next-offset-spec : {M : Type 1} → statement M

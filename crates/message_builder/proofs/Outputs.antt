@@ -14,9 +14,10 @@ use Rattle.checksum.specs.Xor.{xorAll}
 use Rattle.checksum.proofs.Laws.{xorAll-append}
 use Rattle.message_rules.specs.Limits.{outputRoom, mostFragment}
 use Rattle.message_rules.specs.Frame.{plain, closed, frame}
+use Rattle.message_rules.specs.Read.{unless}
 use Rattle.message_rules.specs.declared.Address.{Address}
 use Rattle.message_rules.specs.declared.Direction.the-variants.{Reply}
-use Rattle.message_builder.specs.Output.{over, Builds, refusal, fragment}
+use Rattle.message_builder.specs.Output.{over, builtAnswer, builtOutput, numberOf, builtNumber, Builds, refusal, fragment}
 use Rattle.message_builder.specs.declared.Built.{Built}
 use Rattle.message_builder.specs.declared.Built.the-variants.{Done, Refused}
 
@@ -51,22 +52,30 @@ over-closed seed p out n l h =
 -- ---- a builder's three answers
 
 module _ (allowed : Bool) (s out : List ℕ) where
+  -- the number follows from the answer, by the two tests
+  numbered : (r : Built) → r ≡ builtAnswer allowed s out → numberOf r ≡ builtNumber allowed (length out)
+  numbered r e = ap numberOf e ∙ go (leb outputRoom (length out)) allowed
+    where
+      go : (t u : Bool) → numberOf (cond t (cond u (Done (length s)) (Refused 7)) (Refused 1)) ≡ unless t 1 (unless u 7 0)
+      go true true = refl
+      go true false = refl
+      go false u = refl
+
+  builds : {o : List ℕ} {r : Built} → r ≡ builtAnswer allowed s out → o ≡ builtOutput allowed s out → Builds allowed s out o r
+  builds {o} {r} p q = record { answers = p; number = numbered r p; leaves = q }
+
   pub builds-none : length out < outputRoom → Builds allowed s out out (Refused 1)
-  builds-none h = record { answers = rw (lt-leb outputRoom (length out) h); leaves = rw (lt-leb outputRoom (length out) h) }
+  builds-none h = builds (rw (lt-leb outputRoom (length out) h)) (rw (lt-leb outputRoom (length out) h))
 
   pub builds-refused : allowed ≡ false → (r : Built) → r ≡ refusal (length out) → Builds allowed s out out r
-  builds-refused e r q = record { answers = q ∙ rw e; leaves = rw e (go (leb outputRoom (length out))) }
+  builds-refused e r q = builds (q ∙ rw e) (rw e (go (leb outputRoom (length out))))
     where
       go : (t : Bool) → out ≡ cond t out out
       go true = refl
       go false = refl
 
   pub builds-done : outputRoom ≤ length out → allowed ≡ true → (n : ℕ) (o : List ℕ) → n ≡ length s → o ≡ over s out → Builds allowed s out o (Done n)
-  builds-done h e n o p q =
-      record {
-        answers = ap Done p ∙ rw (le-leb outputRoom (length out) h, e);
-        leaves = q ∙ rw (le-leb outputRoom (length out) h, e);
-      }
+  builds-done h e n o p q = builds (ap Done p ∙ rw (le-leb outputRoom (length out) h, e)) (q ∙ rw (le-leb outputRoom (length out) h, e))
 
 pub builds-as : {t u : Bool} {s s′ out o : List ℕ} {r : Built} → t ≡ u → s ≡ s′ → Builds t s out o r → Builds u s′ out o r
 builds-as {t} {u} {s} {s′} {out} {o} {r} e f b = subst (λ (x : Bool). Builds x s′ out o r) e (subst (λ (x : List ℕ). Builds t x out o r) f b)

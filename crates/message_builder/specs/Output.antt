@@ -7,6 +7,7 @@ use lib.ListN.{length, drop}
 use lib.Dec.{leb}
 use Rattle.message_rules.specs.Answer.{wrongSize, wrongField}
 use Rattle.message_rules.specs.Limits.{outputRoom}
+use Rattle.message_rules.specs.Read.{unless}
 use Rattle.message_rules.specs.Layout.{layoutOf, rule}
 use Rattle.message_rules.specs.Body.{Body}
 use Rattle.message_rules.specs.Frame.{closed}
@@ -27,9 +28,19 @@ builtAnswer allowed s before = cond (leb outputRoom (length before)) (cond allow
 abbrev pub builtOutput : Bool → List ℕ → List ℕ → List ℕ
 builtOutput allowed s before = cond (leb outputRoom (length before)) (cond allowed (over s before) before) before
 
+-- the number of document 01's table that an answer stands for
+abbrev pub numberOf : Built → ℕ
+numberOf (Done n) = 0
+numberOf (Refused k) = k
+
+-- 1: "lent output under 38 bytes"; then 7: "builder given such a field"; else 0: "done"
+abbrev pub builtNumber : Bool → ℕ → ℕ
+builtNumber allowed room = unless (leb 38 room) 1 (unless allowed 7 0)
+
 -- what a builder of these bytes answers and leaves
 pub record Builds (allowed : Bool) (s before after : List ℕ) (r : Built) : Type 0 where
   pub answers : r ≡ builtAnswer allowed s before
+  pub number : numberOf r ≡ builtNumber allowed (length before)
   pub leaves : after ≡ builtOutput allowed s before
 
 -- 7: "builder given such a field". What can be wrong with a body that has its row's fields

@@ -7,3 +7,4 @@ pub mod Typed
 pub mod RoundTrip
 pub mod Order
 pub mod Checks
+pub mod Valid

@@ -1,6 +1,7 @@
 -- Each refusal comes in the papers' order; and the null message, which is exactly what reads as 12.
 -- Assumes nothing.
 use mathlib.Core.Path.{_≡_, refl, sym, ap, ap₂, _∙_}
+use mathlib.Core.Logic.{inl, inr}
 use mathlib.Core.Bool.{Bool, true, false, _&&_}
 use mathlib.Core.List.{List, [], _∷_, _++_}
 use Prim.Native.Nat.{ℕ, _+_, _<_}
@@ -17,16 +18,16 @@ use Rattle.message_rules.specs.Layout.{directionOf, rule, rowOf}
 use Rattle.message_rules.specs.Body.{Body, byRow, decodeBody, split, lengthAllowed}
 use Rattle.message_rules.specs.Frame.{plain, frame, agrees, frameAnswer, bodyLength, bodyOf, messageIn}
 use Rattle.message_rules.specs.Message.{Reading, asMessage, requests, replies, bodyRead, decode, null, toHost}
-use Rattle.message_rules.specs.Theorems.{Ordered, RefusalRange, NullRead, notNull, known, commandKnown, fitsRow, fieldsRight, inOrder}
+use Rattle.message_rules.specs.Theorems.{Ordered, Refusal, RefusalRange, NullRead, notNull, known, commandKnown, fitsRow, fieldsRight, inOrder}
 use Rattle.message_rules.proofs.Rows.{found}
 use Rattle.message_rules.proofs.Frames.{framed, body-back, frame-passes}
 use Rattle.message_rules.proofs.Typed.{IsOk, Lawful, requests-lawful, replies-lawful}
 use Rattle.message_rules.proofs.RoundTrip.{fits-behind}
 
--- a reading has the answer n, and as a refusal a number that only reading gives
+-- a reading has the answer n, and as a refusal it is neither 0 nor 1
 abbrev Judged : {M : Type 0} → Read M → ℕ → Type 0
 Judged (ok m) n = n ≡ 0
-Judged (refused k) n = (k ≡ n) × (1 < k) × (k < 13)
+Judged (refused k) n = (k ≡ n) × (1 < k)
 
 answer-judged : {M : Type 0} (r : Read M) (n : ℕ) → Judged r n → answerOf r ≡ n
 answer-judged (ok m) n j = sym j
@@ -40,10 +41,10 @@ ok-judged (refused k) h = absurd h
 frame-judged : {M N : Type 0} (r : Read M) (f : M → Read N) (n : ℕ) → Judged (andThen r f) n → (t u v w : Bool)
     → Judged (andThen (after (unless t 2 (unless u 3 (unless v 4 (unless w 5 0)))) r) f) (unless t 2 (unless u 3 (unless v 4 (unless w 5 n))))
 frame-judged r f n j true true true true = j
-frame-judged r f n j true true true false = (refl, omega arith, omega arith)
-frame-judged r f n j true true false w = (refl, omega arith, omega arith)
-frame-judged r f n j true false v w = (refl, omega arith, omega arith)
-frame-judged r f n j false u v w = (refl, omega arith, omega arith)
+frame-judged r f n j true true true false = (refl, omega arith)
+frame-judged r f n j true true false w = (refl, omega arith)
+frame-judged r f n j true false v w = (refl, omega arith)
+frame-judged r f n j false u v w = (refl, omega arith)
 
 abbrev bodyOrder : Direction → List ℕ → ℕ
 bodyOrder d l = unless (notNull d l) 12 (unless (commandKnown d l) 6 (unless (fieldsRight d l) 7 0))
@@ -52,20 +53,42 @@ some-command : (d : Direction) (k : ℕ) (f : List ℕ) → notNull d (k ∷ f) 
 some-command way.Request k f = refl
 some-command way.Reply k f = refl
 
+-- the numbers of the tests in their order
+low : (d : Direction) (k : ℕ) → 1 < k → k < 8 → Refusal d k
+low way.Request k g h = (g, h)
+low way.Reply k g h = (g, omega arith, inl h)
+
+command-number : (d : Direction) (k : ℕ) (x y : Bool) → 1 < k → k ≡ unless x 6 (unless y 7 0) → Refusal d k
+command-number d k true true g e = absurd (omega arith)
+command-number d k true false g e = low d k g (omega arith)
+command-number d k false y g e = low d k g (omega arith)
+
+body-number : (d : Direction) (l : List ℕ) (k : ℕ) → 1 < k → k ≡ bodyOrder d l → Refusal d k
+body-number way.Request l k g e = command-number way.Request k (commandKnown way.Request l) (fieldsRight way.Request l) g e
+body-number way.Reply [] k g e = (g, omega arith, inr e)
+body-number way.Reply (x ∷ f) k g e = command-number way.Reply k (commandKnown way.Reply (x ∷ f)) (fieldsRight way.Reply (x ∷ f)) g e
+
+frame-number : (d : Direction) (l : List ℕ) (k : ℕ) (t u v w : Bool) → 1 < k → k ≡ unless t 2 (unless u 3 (unless v 4 (unless w 5 (bodyOrder d l)))) → Refusal d k
+frame-number d l k true true true true g e = body-number d l k g e
+frame-number d l k true true true false g e = low d k g (omega arith)
+frame-number d l k true true false w g e = low d k g (omega arith)
+frame-number d l k true false v w g e = low d k g (omega arith)
+frame-number d l k false u v w g e = low d k g (omega arith)
+
 module _ {M : Type 0} (t : Reading M) (law : Lawful t) where
   -- then those of the body
   body-judged : (d : Direction) → d ≡ t .direction → (l : List ℕ) → Judged (andThen (decodeBody d l) (asMessage t)) (bodyOrder d l)
   unfolding decodeBody byRow
-  body-judged way.Request e [] = (refl, omega arith, omega arith)
-  body-judged way.Reply e [] = (refl, omega arith, omega arith)
+  body-judged way.Request e [] = (refl, omega arith)
+  body-judged way.Reply e [] = (refl, omega arith)
   body-judged d e (k ∷ f) = rw (some-command d k f) (go (rowOf d k) refl)
     where
       allowed : (c : Kind) (l : Layout) → directionOf c ≡ t .direction → (b : Bool) → Judged (andThen (require b 7 (ok (split c l f))) (asMessage t)) (unless b 7 0)
       allowed c l h true = let x : Body = split c l f in ok-judged (asMessage t x) (law .reads c (x .bytes) (x .words) (x .rest) h)
-      allowed c l h false = (refl, omega arith, omega arith)
+      allowed c l h false = (refl, omega arith)
 
       go : (r : Row) → rowOf d k ≡ r → Judged (andThen (byRow r f) (asMessage t)) (unless (known r) 6 (unless (fitsRow r f) 7 0))
-      go Unknown p = (refl, omega arith, omega arith)
+      go Unknown p = (refl, omega arith)
       go (Known c l) p = allowed c l (sym (found d k c l p .way) ∙ e) (lengthAllowed l (length f) && rule c (take (l .bytes) f))
 
   judged : (a : Address) (s : List ℕ) → Judged (decode t a s) (inOrder (t .direction) a s)
@@ -81,9 +104,12 @@ module _ {M : Type 0} (t : Reading M) (law : Lawful t) where
   range : RefusalRange t
   range a s k e = go (decode t a s) (judged a s) e
     where
-      go : (r : Read M) → Judged r (inOrder (t .direction) a s) → r ≡ refused k → (1 < k) × (k < 13)
+      go : (r : Read M) → Judged r (inOrder (t .direction) a s) → r ≡ refused k → Refusal (t .direction) k
       go (ok m) j q = let z : _≡_ {A = ℕ} 0 1 = cc in absurd (omega arith)
-      go (refused i) j q = let same : i ≡ k = cc in (omega (arith, j .1), omega (arith, j .2))
+      go (refused i) j q =
+          let same : i ≡ k = cc in
+          frame-number (t .direction) (bodyOf s) k (leb 3 (length s)) (eqb (getD s 0 0) (a .first)) (agrees (t .direction) s) (eqb (xorAll (a .seed) (take (bodyLength s + 3) s)) 0)
+          (omega (arith, j .1)) (sym same ∙ j .0)
 
 pub requests-ordered : Ordered requests
 requests-ordered = ordered requests requests-lawful

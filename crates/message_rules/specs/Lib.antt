@@ -7,3 +7,4 @@ pub mod Body
 pub mod Frame
 pub mod Message
 pub mod Theorems
+pub mod Valid

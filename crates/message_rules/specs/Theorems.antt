@@ -1,6 +1,7 @@
 -- What is claimed of messages, over every message of either direction and any pair of address bytes. The proofs stand in proofs/RoundTrip.antt, Order.antt and Checks.antt.
 use Prim.Native.Nat.{ℕ, _+_, _<_}
 use mathlib.Core.Path.{_≡_}
+use mathlib.Core.Logic.{_⊎_}
 use mathlib.Core.List.{List, [], _∷_, _++_}
 use mathlib.Core.Bool.{Bool, true, false, _&&_}
 use lib.ListN.{length, getD, take}
@@ -77,9 +78,14 @@ inOrder d a s =
 abbrev pub Ordered : {M : Type 0} → Reading M → Type 0
 Ordered t = (a : Address) (s : List ℕ) → answerOf (decode t a s) ≡ inOrder (t .direction) a s
 
--- a message that is read is no refusal 0, 1 or 16
+-- the numbers that reading refuses with: 2 to 7, and at the host 12
+abbrev pub Refusal : Direction → ℕ → Type 0
+Refusal way.Request k = (1 < k) × (k < 8)
+Refusal way.Reply k = (1 < k) × (k < 13) × ((k < 8) ⊎ (k ≡ 12))
+
+-- a reading refuses with no other number
 abbrev pub RefusalRange : {M : Type 0} → Reading M → Type 0
-RefusalRange t = (a : Address) (s : List ℕ) (k : ℕ) → decode t a s ≡ refused k → (1 < k) × (k < 13)
+RefusalRange t = (a : Address) (s : List ℕ) (k : ℕ) → decode t a s ≡ refused k → Refusal (t .direction) k
 
 -- ---- "The null message is always the three bytes 6E 80 BE. Its reading is answer 12."
 

@@ -19,10 +19,10 @@ extern "C" {
 /* The texts of a transfer. */
 #define DDCCI_CAPABILITIES 0
 #define DDCCI_TABLE 1
-/* The states of a transfer, by DDCCI_STATE. */
-#define DDCCI_RUNNING 0
-#define DDCCI_DONE 1
-#define DDCCI_EXHAUSTED 2
+/* The states of a transfer, by DDCCI_STATE. 0 is closed: a zeroed ddcci_transfer does not run. */
+#define DDCCI_EXHAUSTED 0
+#define DDCCI_RUNNING 1
+#define DDCCI_DONE 2
 #define DDCCI_OVERFLOWED 3
 /* The parent of a node in the outer group. */
 #define DDCCI_NO_PARENT 65535

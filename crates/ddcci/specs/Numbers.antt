@@ -4,8 +4,13 @@ use mathlib.Core.Path.{_≡_}
 use mathlib.Core.Bool.{Bool}
 use mathlib.Core.List.{List}
 use Rattle.message_rules.specs.Answer.{done}
+use Rattle.message_rules.specs.Layout.{requestEntry, replyEntry}
 use Rattle.message_rules.specs.Message.{Reading, requests, replies, encode, decode, toDisplay, toHost}
 use Rattle.message_rules.specs.declared.Address.{Address}
+use Rattle.message_rules.specs.declared.RequestKind.{RequestKind}
+use Rattle.message_rules.specs.declared.RequestKind.the-variants as requestRow
+use Rattle.message_rules.specs.declared.ReplyKind.{ReplyKind}
+use Rattle.message_rules.specs.declared.ReplyKind.the-variants as replyRow
 use Rattle.message_reader.specs.Outcome.{RequestMeans, ReplyMeans}
 use Rattle.message_builder.specs.Output.{Builds, admits}
 use Rattle.message_builder.specs.declared.Built.{Built}
@@ -36,18 +41,25 @@ BuildsMessageNumbers t a m before after r = BuildsNumbers (admits (t .bodyFor m)
 
 -- ---- reading
 
+-- the command numbers of document 01's table of messages
+abbrev pub requestCommand : RequestKind → ℕ
+requestCommand k = requestEntry k .number
+
+abbrev pub replyCommand : ReplyKind → ℕ
+replyCommand k = replyEntry k .number
+
 -- a request: its command number, code, value or offset, and where its data stand; what it does not have is 0
 abbrev pub requestFields : ℕ → ℕ → ℕ → RequestNumbers
 requestFields command code word = record { answer = done; command = command; code = code; word = word; position = 0; len = 0 }
 
 abbrev pub requestNumbers : RequestRead → RequestNumbers
-requestNumbers (request.Get c) = requestFields 0x01 c 0
-requestNumbers (request.Set c v) = requestFields 0x03 c v
-requestNumbers request.Timing = requestFields 0x07 0 0
-requestNumbers request.Save = requestFields 0x0C 0 0
-requestNumbers (request.Text o) = requestFields 0xF3 0 (o .0)
-requestNumbers (request.TableRead c o) = requestFields 0xE2 c (o .0)
-requestNumbers (request.TableWrite c o at n) = record { answer = done; command = 0xE7; code = c; word = o .0; position = at .0; len = n }
+requestNumbers (request.Get c) = requestFields (requestCommand requestRow.Get) c 0
+requestNumbers (request.Set c v) = requestFields (requestCommand requestRow.Set) c v
+requestNumbers request.Timing = requestFields (requestCommand requestRow.Timing) 0 0
+requestNumbers request.Save = requestFields (requestCommand requestRow.Save) 0 0
+requestNumbers (request.Text o) = requestFields (requestCommand requestRow.Text) 0 (o .0)
+requestNumbers (request.TableRead c o) = requestFields (requestCommand requestRow.TableRead) c (o .0)
+requestNumbers (request.TableWrite c o at n) = record { answer = done; command = requestCommand requestRow.TableWrite; code = c; word = o .0; position = at .0; len = n }
 requestNumbers (request.Refused k) = record { answer = k; command = 0; code = 0; word = 0; position = 0; len = 0 }
 
 pub record ReadsRequest (s : List ℕ) (r : RequestNumbers) : Type 0 where
@@ -65,10 +77,10 @@ fragmentNumbers command offset position length =
     record { answer = done; command = command; status = 0; code = 0; kind = 0; first = offset; second = 0; position = position; len = length }
 
 abbrev pub replyNumbers : ReplyRead → ReplyNumbers
-replyNumbers (reply.Value r c t m p) = fieldNumbers done 0x02 r c t m p
-replyNumbers (reply.Timing st h v) = fieldNumbers done 0x4E st 0 0 h v
-replyNumbers (reply.TextFragment o at n) = fragmentNumbers 0xE3 (o .0) (at .0) n
-replyNumbers (reply.TableFragment o at n) = fragmentNumbers 0xE4 (o .0) (at .0) n
+replyNumbers (reply.Value r c t m p) = fieldNumbers done (replyCommand replyRow.Value) r c t m p
+replyNumbers (reply.Timing st h v) = fieldNumbers done (replyCommand replyRow.TimingReply) st 0 0 h v
+replyNumbers (reply.TextFragment o at n) = fragmentNumbers (replyCommand replyRow.TextFragment) (o .0) (at .0) n
+replyNumbers (reply.TableFragment o at n) = fragmentNumbers (replyCommand replyRow.TableFragment) (o .0) (at .0) n
 replyNumbers (reply.Refused k) = fieldNumbers k 0 0 0 0 0 0
 
 pub record ReadsReply (s : List ℕ) (r : ReplyNumbers) : Type 0 where

@@ -20,27 +20,33 @@ use Rattle.ddcci.specs.declared.transfers.TextNumber.the-variants.{Known
 
 -- ---- states and texts as numbers
 
+-- 0 is a state that is closed, so that no transfer of zeroes runs; the header's constants are these (`HeaderNumbers`)
 abbrev pub stateNumber : State → ℕ
-stateNumber Running = 0
-stateNumber Done = 1
-stateNumber Exhausted = 2
+stateNumber Exhausted = 0
+stateNumber Running = 1
+stateNumber Done = 2
 stateNumber Overflowed = 3
 
--- a number above 3 is no state that runs
+-- the state that a number stands for; one above 3 is no state that runs
 abbrev pub stateOf : ℕ → State
-stateOf n = cond (eqb n 0) Running (cond (eqb n 1) Done (cond (eqb n 2) Exhausted Overflowed))
+stateOf n = cond (eqb n (stateNumber Exhausted)) Exhausted (cond (eqb n (stateNumber Running)) Running (cond (eqb n (stateNumber Done)) Done Overflowed))
 
--- a text and its state in one number: 4 more for the table
+-- the number that names a text
+abbrev pub textNumber : TextKind → ℕ
+textNumber Capabilities = 0
+textNumber Table = 1
+
+-- the text that a number names
+abbrev pub textOf : ℕ → TextNumber
+textOf n = cond (eqb n (textNumber Capabilities)) (Known Capabilities) (cond (eqb n (textNumber Table)) (Known Table) Unknown)
+
+-- a text and its state in one number: 4 times the text's number, and the state's
 abbrev pub firstPhase : TextKind → ℕ
 firstPhase Capabilities = 0
 firstPhase Table = 4
 
 abbrev pub phaseNumber : TextKind → State → ℕ
 phaseNumber k s = firstPhase k + stateNumber s
-
--- the text that a number names
-abbrev pub textOf : ℕ → TextNumber
-textOf n = cond (eqb n 0) (Known Capabilities) (cond (eqb n 1) (Known Table) Unknown)
 
 -- by the text, or other where there is none
 abbrev pub byText : {A : Type 0} → TextNumber → (TextKind → A) → A → A
@@ -65,7 +71,8 @@ transferOf k n = record { kind = k; state = stateOf (n .phase % 4); reached = re
 abbrev pub beganNumbers : Begun → TransferNumbers
 beganNumbers b = numbersOf (b .transfer) (b .answer)
 
--- the transfer of an unknown text, which no call moves: an unknown number is refused as an unknown command is, 6
+-- the transfer of an unknown text, whose number is refused as an unknown command is, 6. "A refused start gives .. a spent run of room 0":
+-- phase 8 is 4 times 2, which names no text, and state 0, which is exhausted
 abbrev pub unknownText : TransferNumbers
 unknownText = record { size = 0; offset = 0; budget = 0; count = 0; phase = 8; answer = unknownCommand }
 

@@ -11,8 +11,11 @@ use message_rules::answer;
 use transfer_rules::State;
 use transfer_rules::Transfer;
 
-// A transfer: the length of the buffer that it was begun with; the offset reached; its budget and count; its phase; and the answer of the call that made it. The phase is the state (0 running, 1 done, 2 exhausted, 3 overflowed) of
-// the capabilities string, and 4 more of the table. Sixteen bytes in all, so that it goes in and out in registers.
+// A transfer: the length of the buffer that it was begun with; the offset reached; its budget and count; its phase;
+// and the answer of the call that made it.
+// The phase is 4 times the text's number (0 the capabilities string, 1 the table), and the state:
+// 0 exhausted, 1 running, 2 done, 3 overflowed. So zeroes are a closed transfer.
+// Sixteen bytes in all, so that it goes in and out in registers.
 #[repr(C)]
 pub struct TransferNumbers {
     pub size: usize,
@@ -26,7 +29,7 @@ pub struct TransferNumbers {
 // The first phase of the table, which is how many states there are.
 const TABLE_PHASES: u8 = 4;
 
-// The phase of a transfer whose text is unknown.
+// The phase of a transfer whose text is unknown: exhausted, and of no text.
 const NO_PHASE: u8 = 8;
 
 // A number above 3 is no state that runs.
@@ -34,9 +37,9 @@ fn state_of(number: u8) -> State
     ensures { λ r. ⌜ r ≡ stateOf number ⌝ }
 {
     match number {
-        0 => State::Running,
-        1 => State::Done,
-        2 => State::Exhausted,
+        0 => State::Exhausted,
+        1 => State::Running,
+        2 => State::Done,
         3..=255 => State::Overflowed,
     }
 }
@@ -45,9 +48,9 @@ fn state_number(state: State) -> u8
     ensures { λ r. ⌜ (r ≡ stateNumber state) × (r < 4) ⌝ }
 {
     match state {
-        State::Running => 0,
-        State::Done => 1,
-        State::Exhausted => 2,
+        State::Exhausted => 0,
+        State::Running => 1,
+        State::Done => 2,
         State::Overflowed => 3,
     }
 }

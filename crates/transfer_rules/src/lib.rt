@@ -4,11 +4,12 @@ pub mod limits;
 use message_rules::TextKind;
 use message_rules::TextOffset;
 
-// Whether a transfer runs, or how it closed: at an empty fragment, at its budget, or at data past its room (answer 11).
+// Whether a transfer runs, or how it closed: at its budget, at an empty fragment, or at data past its room (answer 11).
+// In the order of the exported numbers, so that the exports turn one into the other for nothing.
 pub enum State {
+    Exhausted,
     Running,
     Done,
-    Exhausted,
     Overflowed,
 }
 

@@ -87,9 +87,9 @@ impl<'a> Transfer<'a> {
     #[inline]
     pub fn state(&self) -> State {
         match self.numbers.phase % 4 {
-            0 => State::Running,
-            1 => State::Done,
-            2 => State::Exhausted,
+            0 => State::Exhausted,
+            1 => State::Running,
+            2 => State::Done,
             _ => State::Overflowed,
         }
     }

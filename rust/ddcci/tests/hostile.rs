@@ -38,6 +38,11 @@ const NOT_WANTED: u8 = 10;
 const TOO_LONG: u8 = 11;
 const CLOSED: u8 = 16;
 
+const EXHAUSTED: u8 = 0;
+const RUNNING: u8 = 1;
+const DONE: u8 = 2;
+const OVERFLOWED: u8 = 3;
+
 /// The empty table fragment at an offset: the end of the text, if it is the one wanted.
 fn end(offset: u16) -> [u8; 6] {
     let [high, low] = offset.to_be_bytes();
@@ -46,7 +51,7 @@ fn end(offset: u16) -> [u8; 6] {
 
 /// What document 01 answers, and the phase and count afterwards, for a transfer of the table and the end at its own offset.
 fn expected(n: Numbers, text: u8) -> (u8, u8, u16) {
-    let open = n.phase.is_multiple_of(4) && n.count < n.budget;
+    let open = n.phase % 4 == RUNNING && n.count < n.budget;
     if n.phase >= 8 {
         return (UNKNOWN, n.phase, n.count);
     }
@@ -57,14 +62,14 @@ fn expected(n: Numbers, text: u8) -> (u8, u8, u16) {
         return (WRONG_SIZE, n.phase, n.count);
     }
     let count = n.count + 1;
-    let spent = if count == n.budget { 2 } else { 0 };
+    let spent = if count == n.budget { EXHAUSTED } else { RUNNING };
     if text == 0 {
         return (NOT_WANTED, spent, count);
     }
     if usize::from(n.offset) > BUFFER {
-        return (TOO_LONG, 4 + 3, count);
+        return (TOO_LONG, 4 + OVERFLOWED, count);
     }
-    (0, 4 + 1, count)
+    (0, 4 + DONE, count)
 }
 
 #[test]
@@ -91,8 +96,8 @@ fn judge(n: Numbers) {
     assert_eq!(buffer, [0xA5; BUFFER], "an empty fragment has no byte to store");
     let mut out = [0xA5; 38];
     let built = unsafe { ddcci_request(n, out.as_mut_ptr(), out.len()) };
-    if n.phase < 8 && n.phase.is_multiple_of(4) && n.count < n.budget {
-        assert_eq!(built, Built { answer: 0, length: if n.phase == 0 { 6 } else { 7 } });
+    if n.phase < 8 && n.phase % 4 == RUNNING && n.count < n.budget {
+        assert_eq!(built, Built { answer: 0, length: if n.phase == RUNNING { 6 } else { 7 } });
     } else {
         let refusal = if n.phase < 8 { CLOSED } else { UNKNOWN };
         assert_eq!(built, Built { answer: refusal, length: 0 });

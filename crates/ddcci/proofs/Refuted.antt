@@ -1,0 +1,59 @@
+-- What the statements of specs/Follow.antt reject: numbers of a refused start that do not read as a spent run, and states with other numbers than the header's.
+-- Assumes nothing.
+use Prim.Native.Nat.{ℕ, _+_}
+use mathlib.Core.Path.{_≡_, refl}
+use native.Mathlib.Omega.{arith}
+use Rattle.message_rules.specs.declared.TextKind.{TextKind}
+use Rattle.message_rules.specs.declared.TextKind.the-variants.{Capabilities}
+use Rattle.transfer_rules.specs.Transfer as rules
+use Rattle.transfer_rules.specs.declared.State.{State}
+use Rattle.transfer_rules.specs.declared.State.the-variants.{Running, Done, Exhausted, Overflowed}
+use Rattle.ddcci.specs.declared.transfers.TransferNumbers.{TransferNumbers}
+use Rattle.ddcci.specs.Transfers.{stateNumber, textOf, byText, firstPhase, beganNumbers}
+use Rattle.ddcci.specs.Follow.{HeaderNumbers, RefusedIsSpent}
+
+-- ---- a wrong begin
+
+-- refused with the number n, in this phase and with this room
+abbrev refused : ℕ → ℕ → ℕ → TransferNumbers
+refused n phase size = record { size = size; offset = 0; budget = 0; count = 0; phase = phase; answer = n }
+
+-- an unknown text that reads as running: a program's loop on it never ends
+abbrev begin-runs : ℕ → ℕ → ℕ → TransferNumbers
+begin-runs kind size budget = byText (textOf kind) (λ t. beganNumbers (rules.begin t size budget)) (refused 6 9 0)
+
+rejects-begin-runs : RefusedIsSpent begin-runs → ⊥
+rejects-begin-runs h = let e : _≡_ {A = ℕ} 1 0 = h 2 5 9 (λ x. omega (arith, x)) .state in omega arith
+
+-- one that keeps the room of the buffer
+abbrev begin-keeps-room : ℕ → ℕ → ℕ → TransferNumbers
+begin-keeps-room kind size budget = byText (textOf kind) (λ t. beganNumbers (rules.begin t size budget)) (refused 6 8 size)
+
+rejects-begin-keeps-room : RefusedIsSpent begin-keeps-room → ⊥
+rejects-begin-keeps-room h = let e : _≡_ {A = ℕ} 5 0 = h 2 5 9 (λ x. omega (arith, x)) .size in omega arith
+
+-- ---- wrong numbers
+
+-- running as 0, and so on in the order of a transfer's life
+abbrev running-first : State → ℕ
+running-first Running = 0
+running-first Done = 1
+running-first Exhausted = 2
+running-first Overflowed = 3
+
+rejects-running-first : HeaderNumbers (λ k s. firstPhase k + running-first s) → ⊥
+rejects-running-first h = let e : _≡_ {A = ℕ} 2 0 = h .capabilities .0 in omega arith
+
+-- done and overflowed swapped
+abbrev swapped : State → ℕ
+swapped Exhausted = 0
+swapped Running = 1
+swapped Done = 3
+swapped Overflowed = 2
+
+rejects-swapped : HeaderNumbers (λ k s. firstPhase k + swapped s) → ⊥
+rejects-swapped h = let e : _≡_ {A = ℕ} 3 2 = h .capabilities .2 in omega arith
+
+-- both texts in the same phases
+rejects-one-text : HeaderNumbers (λ k s. firstPhase Capabilities + stateNumber s) → ⊥
+rejects-one-text h = let e : _≡_ {A = ℕ} 0 4 = h .table .0 in omega arith

@@ -1,4 +1,6 @@
 //! Capabilities strings and their trees.
+use core::fmt;
+
 use crate::raw;
 use crate::refusal::RefusedAt;
 
@@ -7,7 +9,9 @@ pub const MOST_NODES: usize = 512;
 
 const NO_PARENT: u16 = 65_535;
 
-/// Four buffers that a capabilities string is read into, one entry a node. They can be used again for the next string.
+/// Four buffers that a capabilities string is read into, one entry a node.
+///
+/// They can be used again for the next string.
 pub struct Nodes {
     starts: [u16; MOST_NODES],
     lengths: [u16; MOST_NODES],
@@ -18,6 +22,12 @@ pub struct Nodes {
 impl Default for Nodes {
     fn default() -> Self {
         Nodes { starts: [0; MOST_NODES], lengths: [0; MOST_NODES], parents: [0; MOST_NODES], groups: [0; MOST_NODES] }
+    }
+}
+
+impl fmt::Debug for Nodes {
+    fn fmt(&self, f: &mut fmt::Formatter<'_>) -> fmt::Result {
+        f.debug_struct("Nodes").finish_non_exhaustive()
     }
 }
 
@@ -58,35 +68,22 @@ pub struct Node<'a> {
 impl<'a> Capabilities<'a> {
     /// Reads a capabilities string. A refusal leaves the buffers as they were.
     pub fn read(text: &'a [u8], nodes: &'a mut Nodes) -> Result<Capabilities<'a>, RefusedAt> {
-        let r = unsafe {
-            raw::ddcci_read_capabilities(
-                text.as_ptr(),
-                text.len(),
-                nodes.starts.as_mut_ptr(),
-                MOST_NODES,
-                nodes.lengths.as_mut_ptr(),
-                MOST_NODES,
-                nodes.parents.as_mut_ptr(),
-                MOST_NODES,
-                nodes.groups.as_mut_ptr(),
-                MOST_NODES,
-            )
-        };
-        RefusedAt::check(r.answer, r.position)?;
-        Ok(Capabilities { text, nodes, count: r.nodes })
+        let Nodes { starts, lengths, parents, groups } = &mut *nodes;
+        let count = read_capabilities_into(text, starts, lengths, parents, groups)?;
+        Ok(Capabilities { text, nodes, count })
     }
 
-    /// The number of nodes.
+    /// Returns the number of nodes.
     pub fn len(&self) -> usize {
         self.count
     }
 
-    /// Whether there is no node.
+    /// Returns whether there is no node.
     pub fn is_empty(&self) -> bool {
         self.count == 0
     }
 
-    /// The node with this number.
+    /// Returns the node with this number.
     pub fn node(&self, index: usize) -> Option<Node<'a>> {
         if index >= self.count {
             return None;
@@ -102,19 +99,19 @@ impl<'a> Capabilities<'a> {
         })
     }
 
-    /// All nodes, in text order.
+    /// Returns all nodes, in text order.
     pub fn nodes(&self) -> impl Iterator<Item = Node<'a>> + 'a {
         let all = *self;
         (0..self.count).filter_map(move |i| all.node(i))
     }
 
-    /// The nodes of a word's group, or of the outer group.
+    /// Returns the nodes of a word's group, or with `None` those of the outer group.
     pub fn children(&self, of: Option<&Node<'_>>) -> impl Iterator<Item = Node<'a>> + 'a {
         let parent = of.map(|node| node.index);
         self.nodes().filter(move |node| node.parent == parent)
     }
 
-    /// How many groups a node stands in, the outer one aside.
+    /// Returns how many groups a node stands in, the outer one aside.
     pub fn depth(&self, node: &Node<'_>) -> usize {
         let mut depth = 0;
         let mut at = node.parent;
@@ -126,14 +123,26 @@ impl<'a> Capabilities<'a> {
     }
 }
 
-/// Reads into buffers of any lengths, as the C function does. Returns the number of nodes.
-pub fn read_into(
+impl fmt::Debug for Capabilities<'_> {
+    fn fmt(&self, f: &mut fmt::Formatter<'_>) -> fmt::Result {
+        f.debug_list().entries(self.nodes()).finish()
+    }
+}
+
+/// Reads a capabilities string into four buffers of the caller's, one entry a node, and returns the number of nodes.
+///
+/// This is the C function; [`Capabilities::read`] keeps the buffers for you. The room is the length of the shortest of
+/// the buffers, at most [`MOST_NODES`]. A node's entries are the start and the length of its word, its parent (65,535 in
+/// the outer group), and 1 where a group follows it, else 0. Entries past the nodes stay; a refusal leaves all as it was.
+pub fn read_capabilities_into(
     text: &[u8],
     starts: &mut [u16],
     lengths: &mut [u16],
     parents: &mut [u16],
     groups: &mut [u8],
 ) -> Result<usize, RefusedAt> {
+    // SAFETY: each pointer and its length are those of one slice; the four buffers are borrowed for writing and thus
+    // overlap neither each other nor the text.
     let r = unsafe {
         raw::ddcci_read_capabilities(
             text.as_ptr(),

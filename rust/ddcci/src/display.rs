@@ -1,8 +1,10 @@
 //! A display: it answers a host's requests.
+use core::fmt;
+use core::ops::Range;
+
 use crate::raw;
 use crate::refusal::{Refusal, RefusedAt};
 use crate::transfer::TextKind;
-use std::ops::Range;
 
 /// The bytes of a table's buffer.
 pub const TABLE_ROOM: usize = 1024;
@@ -10,36 +12,47 @@ pub const TABLE_ROOM: usize = 1024;
 /// The bytes of the longest profile: 7 for each code but F4.
 pub const LONGEST_PROFILE: usize = 1785;
 
-/// The timing that a display reports. Bits 5 to 2 of the status are 0.
+/// The timing that a display reports.
 #[repr(C)]
 #[derive(Debug, Clone, Copy, PartialEq, Eq, Default)]
 pub struct Timing {
+    /// The status byte. Bits 5 to 2 are 0, else the start is refused.
     pub status: u8,
+    /// The horizontal frequency, as it goes into the Timing reply.
     pub horizontal: u16,
+    /// The vertical frequency, as it goes into the Timing reply.
     pub vertical: u16,
 }
 
-/// What is declared of a VCP code. The kind is its type: 0 kept, 1 momentary.
+/// What is declared of a VCP code.
 #[repr(C)]
 #[derive(Debug, Clone, Copy, PartialEq, Eq)]
 pub struct Declaration {
+    /// The VCP code: any but F4, which is the table's.
     pub code: u8,
+    /// Whether a Get tells its value.
     pub readable: bool,
+    /// Whether a Set is accepted. A code is readable or writable, or both.
     pub writable: bool,
+    /// Its type: 0 kept, 1 momentary. A momentary code is writable; its value is not stored.
     pub kind: u8,
+    /// Whether values above the maximum are refused.
     pub continuous: bool,
+    /// The greatest value, which a Get tells.
     pub maximum: u16,
+    /// The present value, which is the saved one too at first.
     pub present: u16,
 }
 
 /// What a step came to.
 #[derive(Debug, Clone, PartialEq, Eq)]
+#[must_use = "the reply, if one is due, has the step's length and stands at the start of the output"]
 pub struct Step {
     /// Done, or why the message was refused.
     pub answer: Result<(), Refusal>,
-    /// The length of the reply at the start of the output; 0 where none is due.
+    /// The length of the reply at the start of the output; 0 where none is due: a read then gets the null message.
     pub length: usize,
-    /// The fragment that was sent: of which text, and its place there.
+    /// The fragment that was sent: of which text, and which of its bytes.
     pub found: Option<(TextKind, Range<usize>)>,
 }
 
@@ -61,24 +74,34 @@ pub struct Step {
 pub struct Display(raw::Display);
 
 impl Display {
-    /// Starts a display with a capabilities string of at most 4,096 bytes and fragments of 1 to 32. No code is declared yet.
-    pub fn start(timing: Timing, text: &[u8], size: u16) -> Result<Display, Refusal> {
-        let r = unsafe { raw::ddcci_display_start(timing, text.as_ptr(), text.len(), size) };
+    /// Starts a display with a capabilities string of at most 4,096 bytes and fragments of 1 to 32 bytes.
+    /// No code is declared yet.
+    pub fn start(timing: Timing, text: &[u8], fragment_size: u16) -> Result<Display, Refusal> {
+        // SAFETY: pointer and length are those of one slice, which is only read during the call.
+        let r = unsafe { raw::ddcci_display_start(timing, text.as_ptr(), text.len(), fragment_size) };
         Refusal::check(r.answer)?;
         Ok(Display(r.display))
     }
 
     /// Declares a VCP code, or changes nothing.
     pub fn declare(&mut self, declaration: Declaration) -> Result<(), Refusal> {
+        // SAFETY: both go by value, and a `bool` of Rust is 0 or 1.
         let r = unsafe { raw::ddcci_display_declare(self.0, declaration) };
         self.0 = r.display;
         Refusal::check(r.answer)
     }
 
-    /// One message: lent the capabilities string at its starting length, the table's buffer of [`TABLE_ROOM`] bytes and an output of at least [`crate::OUTPUT_ROOM`].
-    /// Which code a Set was for, also of a momentary one, whose value is not kept, tells [`crate::Request::read`] of the same message.
+    /// Answers one message.
+    ///
+    /// Lent are the capabilities string at its starting length, the table's buffer of [`TABLE_ROOM`] bytes as the last
+    /// step left it, and an output of at least [`crate::OUTPUT_ROOM`] bytes.
+    ///
+    /// Where the answer is `Ok`, [`crate::Request::read`] of the same message tells what was done: which code was set,
+    /// also of a momentary one, whose value is not stored, or that a Save or a Table write came.
     #[inline]
     pub fn step(&mut self, text: &[u8], table: &mut [u8], message: &[u8], out: &mut [u8]) -> Step {
+        // SAFETY: each pointer and its length are those of one slice; the table and the output are borrowed for writing
+        // and thus overlap neither each other nor the text nor the message.
         let r = unsafe {
             raw::ddcci_display_step(
                 self.0,
@@ -102,8 +125,10 @@ impl Display {
         Step { answer: Refusal::check(r.answer), length: r.length, found }
     }
 
-    /// Writes the profile of the saved values to the start of the output: 7 bytes for each code that is readable, writable and kept. Returns its length; [`LONGEST_PROFILE`] bytes are always enough.
+    /// Writes the profile of the saved values to the start of the output, and returns its length: 7 bytes for each code
+    /// that is readable, writable and kept. [`LONGEST_PROFILE`] bytes are always enough.
     pub fn write_profile(&self, out: &mut [u8]) -> Result<usize, Refusal> {
+        // SAFETY: pointer and length are those of one slice, which is borrowed for writing and thus overlaps no other.
         let r = unsafe { raw::ddcci_display_write_profile(self.0, out.as_mut_ptr(), out.len()) };
         Refusal::check(r.answer).map(|()| r.length)
     }
@@ -123,8 +148,21 @@ impl Display {
     /// # Ok::<(), ddcci::Refusal>(())
     /// ```
     pub fn load_profile(&mut self, profile: &[u8]) -> Result<(), RefusedAt> {
+        // SAFETY: pointer and length are those of one slice, which is only read during the call.
         let r = unsafe { raw::ddcci_display_load_profile(self.0, profile.as_ptr(), profile.len()) };
         self.0 = r.display;
         RefusedAt::check(r.answer, r.position)
+    }
+}
+
+impl fmt::Debug for Display {
+    fn fmt(&self, f: &mut fmt::Formatter<'_>) -> fmt::Result {
+        let declared: u32 = self.0.settings.declared.iter().map(|word| word.count_ones()).sum();
+        f.debug_struct("Display")
+            .field("declared_codes", &declared)
+            .field("capabilities", &self.0.capabilities)
+            .field("table", &self.0.table)
+            .field("fragment_size", &self.0.fragment_size)
+            .finish_non_exhaustive()
     }
 }

@@ -1,6 +1,13 @@
 //! Safe bindings of Paneknoll, a verified implementation of both ends of VESA DDC/CI 1.1.
 //!
-//! Every call below goes to a function that is proved, for all inputs, to be safe, to end and to answer as document 01 says. None of them panics on any bytes.
+//! Every call below goes to a function that is proved, for all inputs, to be safe, to end and to answer as document 01
+//! says. None of them panics on any bytes, and none allocates.
+//!
+//! The crate is `no_std` without its feature `std`, which is on by default and adds only the change of a refusal into a
+//! [`std::io::Error`]. The archives that it links are built for x86-64 Linux.
+#![cfg_attr(not(feature = "std"), no_std)]
+#![deny(missing_docs, missing_debug_implementations, unsafe_op_in_unsafe_fn)]
+#![deny(clippy::undocumented_unsafe_blocks)]
 mod capabilities;
 mod display;
 mod message;
@@ -8,8 +15,8 @@ mod raw;
 mod refusal;
 mod transfer;
 
-pub use capabilities::{read_into, Capabilities, Node, Nodes, MOST_NODES};
+pub use capabilities::{read_capabilities_into, Capabilities, Node, Nodes, MOST_NODES};
 pub use display::{Declaration, Display, Step, Timing, LONGEST_PROFILE, TABLE_ROOM};
 pub use message::{checksum, Message, Reply, Request, MOST_FRAGMENT, MOST_WRITTEN, OUTPUT_ROOM};
 pub use refusal::{Refusal, RefusedAt};
-pub use transfer::{State, TextKind, Transfer};
+pub use transfer::{State, TextKind, Transfer, Unfinished};

@@ -1,7 +1,9 @@
 //! Messages of both directions.
+use core::fmt;
+use core::ops::Deref;
+
 use crate::raw;
 use crate::refusal::Refusal;
-use std::ops::Deref;
 
 /// The bytes of output that every builder asks for: the longest message.
 pub const OUTPUT_ROOM: usize = 38;
@@ -12,13 +14,14 @@ pub const MOST_WRITTEN: usize = 31;
 /// The most data bytes of a fragment.
 pub const MOST_FRAGMENT: usize = 32;
 
-/// The exclusive-or of bytes with a seed: 6E for a request, 50 for a reply. It is 0 over a whole message.
+/// Returns the exclusive-or of bytes with a seed: 6E for a request, 50 for a reply. It is 0 over a whole message.
 ///
 /// ```
 /// assert_eq!(ddcci::checksum(0x6E, &[0x51, 0x82, 0x01, 0x10, 0xAC]), 0);
 /// ```
 #[inline]
 pub fn checksum(seed: u8, bytes: &[u8]) -> u8 {
+    // SAFETY: pointer and length are those of one slice, which is only read during the call.
     unsafe { raw::ddcci_checksum(seed, bytes.as_ptr(), bytes.len()) }
 }
 
@@ -46,8 +49,8 @@ impl Deref for Message {
     }
 }
 
-impl std::fmt::Debug for Message {
-    fn fmt(&self, f: &mut std::fmt::Formatter<'_>) -> std::fmt::Result {
+impl fmt::Debug for Message {
+    fn fmt(&self, f: &mut fmt::Formatter<'_>) -> fmt::Result {
         write!(f, "{:02X?}", &self[..])
     }
 }
@@ -72,25 +75,49 @@ fn length(built: raw::Built) -> Result<usize, Refusal> {
 #[derive(Debug, Clone, Copy, PartialEq, Eq)]
 pub enum Request<'a> {
     /// Get VCP feature (01).
-    Get { code: u8 },
+    Get {
+        /// The VCP code.
+        code: u8,
+    },
     /// Set VCP feature (03).
-    Set { code: u8, value: u16 },
+    Set {
+        /// The VCP code.
+        code: u8,
+        /// Its new value.
+        value: u16,
+    },
     /// Get timing report (07).
     Timing,
     /// Save current settings (0C).
     Save,
     /// Capabilities request (F3).
-    Text { offset: u16 },
+    Text {
+        /// From which byte of the capabilities string on.
+        offset: u16,
+    },
     /// Table read (E2).
-    TableRead { code: u8, offset: u16 },
-    /// Table write (E7), with at most 31 bytes of data.
-    TableWrite { code: u8, offset: u16, data: &'a [u8] },
+    TableRead {
+        /// The table's VCP code: F4 is the one that a display has.
+        code: u8,
+        /// From which byte of the table on.
+        offset: u16,
+    },
+    /// Table write (E7).
+    TableWrite {
+        /// The table's VCP code: F4 is the one that a display has.
+        code: u8,
+        /// Where in the table the data go.
+        offset: u16,
+        /// The bytes to write, at most [`MOST_WRITTEN`].
+        data: &'a [u8],
+    },
 }
 
 impl<'a> Request<'a> {
     /// Reads a request. The slice is the whole message.
     #[inline]
     pub fn read(message: &'a [u8]) -> Result<Request<'a>, Refusal> {
+        // SAFETY: pointer and length are those of one slice, which is only read during the call.
         let r = unsafe { raw::ddcci_read_request(message.as_ptr(), message.len()) };
         Refusal::check(r.answer)?;
         Ok(match r.command {
@@ -106,10 +133,13 @@ impl<'a> Request<'a> {
         })
     }
 
-    /// Builds the message at the start of `out`, which has at least [`OUTPUT_ROOM`] bytes, and returns its length. Bytes beyond it stay.
+    /// Builds the message at the start of `out`, which has at least [`OUTPUT_ROOM`] bytes, and returns its length.
+    /// Bytes beyond it stay.
     #[inline]
     pub fn build(&self, out: &mut [u8]) -> Result<usize, Refusal> {
         let (o, n) = (out.as_mut_ptr(), out.len());
+        // SAFETY: each pointer and its length are those of one slice; `out` is borrowed for writing and thus does not
+        // overlap the data.
         length(unsafe {
             match *self {
                 Request::Get { code } => raw::ddcci_build_get(code, o, n),
@@ -125,7 +155,7 @@ impl<'a> Request<'a> {
         })
     }
 
-    /// The message's bytes.
+    /// Returns the message's bytes.
     #[inline]
     pub fn to_bytes(&self) -> Result<Message, Refusal> {
         Message::built(|out| self.build(out))
@@ -146,21 +176,50 @@ impl<'a> Request<'a> {
 #[derive(Debug, Clone, Copy, PartialEq, Eq)]
 pub enum Reply<'a> {
     /// VCP feature reply (02).
-    Value { result: u8, code: u8, kind: u8, max: u16, present: u16 },
+    Value {
+        /// 0 done, 1 the display does not have this code.
+        result: u8,
+        /// The VCP code.
+        code: u8,
+        /// The code's type: 0 kept, 1 momentary.
+        kind: u8,
+        /// The greatest value.
+        max: u16,
+        /// The present value.
+        present: u16,
+    },
     /// Timing message (4E).
-    Timing { status: u8, horizontal: u16, vertical: u16 },
+    Timing {
+        /// The status byte. Its bits 5 to 2 are 0.
+        status: u8,
+        /// The horizontal frequency, as the display gives it.
+        horizontal: u16,
+        /// The vertical frequency, as the display gives it.
+        vertical: u16,
+    },
     /// The null message. It can be built; read, it is [`Refusal::NullMessage`].
     Null,
-    /// Capabilities reply (E3), with at most 32 bytes of data.
-    TextFragment { offset: u16, data: &'a [u8] },
-    /// Table read reply (E4), with at most 32 bytes of data.
-    TableFragment { offset: u16, data: &'a [u8] },
+    /// Capabilities reply (E3).
+    TextFragment {
+        /// Where in the capabilities string the data stand.
+        offset: u16,
+        /// The bytes, at most [`MOST_FRAGMENT`]; none at the end of the string.
+        data: &'a [u8],
+    },
+    /// Table read reply (E4).
+    TableFragment {
+        /// Where in the table the data stand.
+        offset: u16,
+        /// The bytes, at most [`MOST_FRAGMENT`]; none at the end of the table.
+        data: &'a [u8],
+    },
 }
 
 impl<'a> Reply<'a> {
     /// Reads the reply that the slice begins with; what follows it is ignored.
     #[inline]
     pub fn read(message: &'a [u8]) -> Result<Reply<'a>, Refusal> {
+        // SAFETY: pointer and length are those of one slice, which is only read during the call.
         let r = unsafe { raw::ddcci_read_reply(message.as_ptr(), message.len()) };
         Refusal::check(r.answer)?;
         let data = &message[r.position..r.position + r.length];
@@ -172,10 +231,13 @@ impl<'a> Reply<'a> {
         })
     }
 
-    /// Builds the message at the start of `out`, which has at least [`OUTPUT_ROOM`] bytes, and returns its length. Bytes beyond it stay.
+    /// Builds the message at the start of `out`, which has at least [`OUTPUT_ROOM`] bytes, and returns its length.
+    /// Bytes beyond it stay.
     #[inline]
     pub fn build(&self, out: &mut [u8]) -> Result<usize, Refusal> {
         let (o, n) = (out.as_mut_ptr(), out.len());
+        // SAFETY: each pointer and its length are those of one slice; `out` is borrowed for writing and thus does not
+        // overlap the data.
         length(unsafe {
             match *self {
                 Reply::Value { result, code, kind, max, present } => {
@@ -195,7 +257,7 @@ impl<'a> Reply<'a> {
         })
     }
 
-    /// The message's bytes.
+    /// Returns the message's bytes.
     #[inline]
     pub fn to_bytes(&self) -> Result<Message, Refusal> {
         Message::built(|out| self.build(out))

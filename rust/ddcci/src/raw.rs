@@ -1,4 +1,11 @@
-//! The exported functions, as `include/ddcci.h` and `include/ddcci_display.h` declare them. Nothing checks these declarations against the Rattle source, so they are few and plain.
+//! The exported functions, as `include/ddcci.h` and `include/ddcci_display.h` declare them.
+//!
+//! Nothing checks these declarations against the Rattle source: they are believed, and so they are few and plain.
+//! A test compares their sizes with those that the headers hold.
+//!
+//! # Safety
+//! Every function may be called with any numbers. A pointer and the length behind it must be those of one slice that may
+//! be read, and written where the pointer is `*mut`; a slice that is written overlaps no other slice of the call.
 use crate::display::{Declaration, Timing};
 
 #[repr(C)]
@@ -34,22 +41,22 @@ pub struct Reply {
 }
 
 extern "C" {
-    pub fn ddcci_read_request(message: *const u8, message_len: usize) -> Request;
-    pub fn ddcci_read_reply(message: *const u8, message_len: usize) -> Reply;
+    pub fn ddcci_read_request(message: *const u8, message_length: usize) -> Request;
+    pub fn ddcci_read_reply(message: *const u8, message_length: usize) -> Reply;
 
-    pub fn ddcci_build_get(code: u8, out: *mut u8, out_len: usize) -> Built;
-    pub fn ddcci_build_set(code: u8, value: u16, out: *mut u8, out_len: usize) -> Built;
-    pub fn ddcci_build_timing(out: *mut u8, out_len: usize) -> Built;
-    pub fn ddcci_build_save(out: *mut u8, out_len: usize) -> Built;
-    pub fn ddcci_build_text(offset: u16, out: *mut u8, out_len: usize) -> Built;
-    pub fn ddcci_build_table_read(code: u8, offset: u16, out: *mut u8, out_len: usize) -> Built;
+    pub fn ddcci_build_get(code: u8, out: *mut u8, out_length: usize) -> Built;
+    pub fn ddcci_build_set(code: u8, value: u16, out: *mut u8, out_length: usize) -> Built;
+    pub fn ddcci_build_timing(out: *mut u8, out_length: usize) -> Built;
+    pub fn ddcci_build_save(out: *mut u8, out_length: usize) -> Built;
+    pub fn ddcci_build_text(offset: u16, out: *mut u8, out_length: usize) -> Built;
+    pub fn ddcci_build_table_read(code: u8, offset: u16, out: *mut u8, out_length: usize) -> Built;
     pub fn ddcci_build_table_write(
         code: u8,
         offset: u16,
         data: *const u8,
-        data_len: usize,
+        data_length: usize,
         out: *mut u8,
-        out_len: usize,
+        out_length: usize,
     ) -> Built;
 
     pub fn ddcci_build_value(
@@ -59,24 +66,30 @@ extern "C" {
         max: u16,
         present: u16,
         out: *mut u8,
-        out_len: usize,
+        out_length: usize,
     ) -> Built;
-    pub fn ddcci_build_timing_reply(status: u8, horizontal: u16, vertical: u16, out: *mut u8, out_len: usize) -> Built;
+    pub fn ddcci_build_timing_reply(
+        status: u8,
+        horizontal: u16,
+        vertical: u16,
+        out: *mut u8,
+        out_length: usize,
+    ) -> Built;
     pub fn ddcci_build_text_fragment(
         offset: u16,
         data: *const u8,
-        data_len: usize,
+        data_length: usize,
         out: *mut u8,
-        out_len: usize,
+        out_length: usize,
     ) -> Built;
     pub fn ddcci_build_table_fragment(
         offset: u16,
         data: *const u8,
-        data_len: usize,
+        data_length: usize,
         out: *mut u8,
-        out_len: usize,
+        out_length: usize,
     ) -> Built;
-    pub fn ddcci_build_null(out: *mut u8, out_len: usize) -> Built;
+    pub fn ddcci_build_null(out: *mut u8, out_length: usize) -> Built;
 }
 
 #[repr(C)]
@@ -90,7 +103,7 @@ pub struct Reading {
 #[repr(C)]
 #[derive(Clone, Copy)]
 pub struct Transfer {
-    pub size: usize,
+    pub buffer_length: usize,
     pub offset: u16,
     pub budget: u16,
     pub count: u16,
@@ -101,27 +114,27 @@ pub struct Transfer {
 extern "C" {
     pub fn ddcci_read_capabilities(
         text: *const u8,
-        text_len: usize,
+        text_length: usize,
         starts: *mut u16,
-        starts_len: usize,
+        starts_length: usize,
         lengths: *mut u16,
-        lengths_len: usize,
+        lengths_length: usize,
         parents: *mut u16,
-        parents_len: usize,
+        parents_length: usize,
         groups: *mut u8,
-        groups_len: usize,
+        groups_length: usize,
     ) -> Reading;
 
-    pub fn ddcci_checksum(seed: u8, bytes: *const u8, bytes_len: usize) -> u8;
+    pub fn ddcci_checksum(seed: u8, bytes: *const u8, bytes_length: usize) -> u8;
 
-    pub fn ddcci_begin(kind: u8, buffer: *const u8, buffer_len: usize, budget: usize) -> Transfer;
-    pub fn ddcci_request(transfer: Transfer, out: *mut u8, out_len: usize) -> Built;
+    pub fn ddcci_begin(kind: u8, buffer: *const u8, buffer_length: usize, budget: usize) -> Transfer;
+    pub fn ddcci_request(transfer: Transfer, out: *mut u8, out_length: usize) -> Built;
     pub fn ddcci_receive(
         transfer: Transfer,
         buffer: *mut u8,
-        buffer_len: usize,
+        buffer_length: usize,
         reply: *const u8,
-        reply_len: usize,
+        reply_length: usize,
     ) -> Transfer;
 }
 
@@ -143,11 +156,11 @@ pub struct Settings {
 
 /// A text's length, and the offset and the length of the fragment that was sent last.
 #[repr(C)]
-#[derive(Clone, Copy, PartialEq, Eq)]
+#[derive(Debug, Clone, Copy, PartialEq, Eq)]
 pub struct TextState {
     pub length: u16,
     pub offset: u16,
-    pub sent: u16,
+    pub sent_length: u16,
 }
 
 #[repr(C)]
@@ -156,7 +169,7 @@ pub struct Display {
     pub settings: Settings,
     pub capabilities: TextState,
     pub table: TextState,
-    pub size: u16,
+    pub fragment_size: u16,
 }
 
 #[repr(C)]
@@ -186,19 +199,24 @@ pub struct DisplayLoaded {
 }
 
 extern "C" {
-    pub fn ddcci_display_start(timing: Timing, text: *const u8, text_len: usize, size: u16) -> DisplayChanged;
+    pub fn ddcci_display_start(
+        timing: Timing,
+        text: *const u8,
+        text_length: usize,
+        fragment_size: u16,
+    ) -> DisplayChanged;
     pub fn ddcci_display_declare(display: Display, declaration: Declaration) -> DisplayChanged;
     pub fn ddcci_display_step(
         display: Display,
         text: *const u8,
-        text_len: usize,
+        text_length: usize,
         table: *mut u8,
-        table_len: usize,
+        table_length: usize,
         message: *const u8,
-        message_len: usize,
+        message_length: usize,
         out: *mut u8,
-        out_len: usize,
+        out_length: usize,
     ) -> DisplayStepped;
-    pub fn ddcci_display_write_profile(display: Display, out: *mut u8, out_len: usize) -> Built;
-    pub fn ddcci_display_load_profile(display: Display, profile: *const u8, profile_len: usize) -> DisplayLoaded;
+    pub fn ddcci_display_write_profile(display: Display, out: *mut u8, out_length: usize) -> Built;
+    pub fn ddcci_display_load_profile(display: Display, profile: *const u8, profile_length: usize) -> DisplayLoaded;
 }

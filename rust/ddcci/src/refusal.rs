@@ -1,17 +1,20 @@
 //! The refusals of document 01's table of answer numbers.
-use std::fmt;
+use core::fmt;
 
 macro_rules! refusals {
     ($($(#[$doc:meta])* $name:ident = $number:literal, $text:literal;)*) => {
         /// Why a call was refused. Each refusal has the number of document 01's table, and leaves what that table says.
+        ///
+        /// Further numbers may join the table.
         #[derive(Debug, Clone, Copy, PartialEq, Eq, Hash)]
         #[repr(u8)]
+        #[non_exhaustive]
         pub enum Refusal {
             $($(#[$doc])* $name = $number,)*
         }
 
         impl Refusal {
-            /// The refusal of an answer number; `None` for 0 (done) and for a number outside the table.
+            /// Returns the refusal of an answer number; `None` for 0 (done) and for a number outside the table.
             pub fn from_number(number: u8) -> Option<Refusal> {
                 match number {
                     $($number => Some(Refusal::$name),)*
@@ -19,7 +22,7 @@ macro_rules! refusals {
                 }
             }
 
-            fn text(self) -> &'static str {
+            fn meaning(self) -> &'static str {
                 match self {
                     $(Refusal::$name => $text,)*
                 }
@@ -68,12 +71,12 @@ refusals! {
 }
 
 impl Refusal {
-    /// The number in document 01's table.
+    /// Returns the number in document 01's table.
     pub fn number(self) -> u8 {
         self as u8
     }
 
-    /// `Ok` for answer 0, else the refusal.
+    /// Returns `Ok` for answer 0, else the refusal.
     #[inline]
     pub(crate) fn check(number: u8) -> Result<(), Refusal> {
         match number {
@@ -90,11 +93,19 @@ impl Refusal {
 
 impl fmt::Display for Refusal {
     fn fmt(&self, f: &mut fmt::Formatter<'_>) -> fmt::Result {
-        write!(f, "refused {}: {}", self.number(), self.text())
+        write!(f, "refused {}: {}", self.number(), self.meaning())
     }
 }
 
-impl std::error::Error for Refusal {}
+impl core::error::Error for Refusal {}
+
+/// For programs that talk to a device file: a refusal is invalid data.
+#[cfg(feature = "std")]
+impl From<Refusal> for std::io::Error {
+    fn from(refusal: Refusal) -> std::io::Error {
+        std::io::Error::new(std::io::ErrorKind::InvalidData, refusal)
+    }
+}
 
 /// Why a capabilities string or a profile was refused, and where.
 #[derive(Debug, Clone, Copy, PartialEq, Eq)]
@@ -106,7 +117,7 @@ pub struct RefusedAt {
 }
 
 impl RefusedAt {
-    /// `Ok` for answer 0, else the refusal with its position.
+    /// Returns `Ok` for answer 0, else the refusal with its position.
     #[inline]
     pub(crate) fn check(number: u8, position: usize) -> Result<(), RefusedAt> {
         Refusal::check(number).map_err(|refusal| RefusedAt { refusal, position })
@@ -119,4 +130,12 @@ impl fmt::Display for RefusedAt {
     }
 }
 
-impl std::error::Error for RefusedAt {}
+impl core::error::Error for RefusedAt {}
+
+/// For programs that talk to a device file: a refusal is invalid data.
+#[cfg(feature = "std")]
+impl From<RefusedAt> for std::io::Error {
+    fn from(refused: RefusedAt) -> std::io::Error {
+        std::io::Error::new(std::io::ErrorKind::InvalidData, refused)
+    }
+}

@@ -26,7 +26,7 @@ impl Lent {
 
 fn read_alike(text: &[u8], rooms: [usize; 4]) {
     let (mut a, mut b) = (Lent::new(rooms), Lent::new(rooms));
-    let ours = ddcci::read_into(text, &mut a.starts, &mut a.lengths, &mut a.parents, &mut a.groups)
+    let ours = ddcci::read_capabilities_into(text, &mut a.starts, &mut a.lengths, &mut a.parents, &mut a.groups)
         .map_err(|r| (r.refusal.number(), r.position));
     let theirs = slow::read(text, &mut b.starts, &mut b.lengths, &mut b.parents, &mut b.groups);
     let shown = String::from_utf8_lossy(text);

@@ -135,7 +135,7 @@ fn profiles() {
         for code in 0..=255 {
             let message = Request::Get { code }.to_bytes().unwrap();
             let (mut table, mut a, mut b) = ([0; TABLE_ROOM], [0; OUTPUT_ROOM], [0; OUTPUT_ROOM]);
-            ours.step(TEXT, &mut table, &message, &mut a);
+            let _ = ours.step(TEXT, &mut table, &message, &mut a);
             theirs.step(TEXT, &mut table, &message, &mut b);
             assert_eq!(a, b, "{code:02X}");
         }

@@ -1,7 +1,7 @@
 //! Transfers over simulated noisy lines: step for step as the oracle's, with the claims of demand 3 asserted at the end of each list of exchanges.
 mod common;
 use common::rounds;
-use ddcci::{Refusal, Reply, State, TextKind, Transfer};
+use ddcci::{Refusal, Reply, State, TextKind, Transfer, Unfinished};
 use oracle::conforming::ConformingDisplay;
 use oracle::line::{NoisyLine, Random, CARRY_LIMIT};
 use oracle::transfer as slow;
@@ -109,7 +109,7 @@ fn demand_3_over_noisy_lines() {
         let run = exchanges(&mut r, conditions, &mut transfer, &mut slow, &mut theirs);
 
         let reached = usize::from(transfer.offset());
-        assert_eq!(transfer.text(), &text[..reached], "the bytes accepted are the text's first ones");
+        assert_eq!(transfer.received_so_far(), &text[..reached], "the bytes accepted are the text's first ones");
         assert_eq!(&transfer.buffer()[reached..], &before[reached..], "the buffer is otherwise as it was");
         if transfer.state() == State::Done {
             assert_eq!(reached, length);
@@ -134,7 +134,7 @@ fn budget_of_l_and_of_l_and_1() {
             let reply = Reply::TableFragment { offset: at as u16, data }.to_bytes().unwrap();
             let _ = transfer.receive(&reply);
         }
-        assert_eq!((transfer.state(), transfer.text()), (state, &text[..]));
+        assert_eq!((transfer.state(), transfer.received_so_far()), (state, &text[..]));
     }
 }
 
@@ -147,4 +147,50 @@ fn budgets_and_closed_transfers() {
     assert_eq!(transfer.request().err(), Some(Refusal::TransferClosed));
     assert_eq!(transfer.receive(&[]), Err(Refusal::TransferClosed));
     assert_eq!(transfer.count(), 0);
+}
+
+/// Runs a transfer on replies, one an exchange. Returns what it gives at the end, and the answer to each reply.
+fn finished<'a>(buffer: &'a mut [u8], budget: usize, replies: &[&[u8]]) -> (Result<&'a [u8], Unfinished>, Vec<u8>) {
+    let mut transfer = Transfer::begin(TextKind::Table, buffer, budget).unwrap();
+    let answers = replies.iter().map(|reply| transfer.receive(reply).map_or_else(Refusal::number, |()| 0)).collect();
+    (transfer.finish(), answers)
+}
+
+#[test]
+fn a_text_is_handed_out_only_when_it_is_whole() {
+    let first = Reply::TableFragment { offset: 0, data: b"12, 7, " }.to_bytes().unwrap();
+    let second = Reply::TableFragment { offset: 7, data: b"31" }.to_bytes().unwrap();
+    let end = Reply::TableFragment { offset: 9, data: b"" }.to_bytes().unwrap();
+    let unfinished = |state, received, exchanges| Err(Unfinished { state, received, exchanges });
+    let mut buffer = [0; 9];
+    let whole: [&[u8]; 3] = [&first, &second, &end];
+    assert_eq!(finished(&mut buffer, 3, &whole).0, Ok(&b"12, 7, 31"[..]));
+    assert_eq!(finished(&mut buffer, 3, &whole[..2]).0, unfinished(State::Running, 9, 2));
+    assert_eq!(finished(&mut buffer, 2, &whole).0, unfinished(State::Exhausted, 9, 2));
+    assert_eq!(finished(&mut buffer, 0, &whole).0, unfinished(State::Exhausted, 0, 0));
+    assert_eq!(finished(&mut buffer[..8], 9, &whole).0, unfinished(State::Overflowed, 7, 2));
+    let said = finished(&mut buffer, 2, &whole).0.unwrap_err().to_string();
+    let wanted =
+        "the transfer is closed, its budget is used up: 9 bytes came in 2 exchanges, and not the end of the text";
+    assert_eq!(said, wanted);
+}
+
+/// What demand 3 supposes and no program can see. "12" at offset 0 is 6E 85 E4 00 00 31 32 5C, of which the line flips
+/// bit 0 in two data bytes: the checksum is the same, so the reader accepts it, and a transfer that says done holds "03".
+#[test]
+fn two_flips_of_one_bit_pass_the_checksum() {
+    let sent = Reply::TableFragment { offset: 0, data: b"12" }.to_bytes().unwrap();
+    let end = Reply::TableFragment { offset: 2, data: b"" }.to_bytes().unwrap();
+    assert_eq!(&sent[..], [0x6E, 0x85, 0xE4, 0x00, 0x00, 0x31, 0x32, 0x5C]);
+    let flipped = [0x6E, 0x85, 0xE4, 0x00, 0x00, 0x30, 0x33, 0x5C];
+    let mut buffer = [0; 8];
+    assert_eq!(finished(&mut buffer, 9, &[&flipped, &end]), (Ok(&b"03"[..]), vec![0, 0]));
+    // Each single flipped bit is refused.
+    for bit in 0..8 * sent.len() {
+        let mut once = sent.to_vec();
+        once[bit / 8] ^= 1 << (bit % 8);
+        let (text, answers) = finished(&mut buffer, 9, &[&once, &sent, &end]);
+        assert_eq!(text, Ok(&b"12"[..]), "bit {bit}");
+        assert!(answers[0] != 0 && answers[1..] == [0, 0], "bit {bit}: {answers:?}");
+    }
 }

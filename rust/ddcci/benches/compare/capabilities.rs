@@ -106,7 +106,15 @@ pub fn run() {
         let (mut a, mut b) = (Lent::new(), Lent::new());
         let times = both(
             2_000_000 / length,
-            || ddcci::read_into(black_box(&text), &mut a.starts, &mut a.lengths, &mut a.parents, &mut a.groups),
+            || {
+                ddcci::read_capabilities_into(
+                    black_box(&text),
+                    &mut a.starts,
+                    &mut a.lengths,
+                    &mut a.parents,
+                    &mut a.groups,
+                )
+            },
             || {
                 oracle::capabilities::read_one_pass(
                     black_box(&text),
@@ -118,12 +126,21 @@ pub fn run() {
             },
         );
         line(&format!("capabilities string of {} bytes", text.len()), times);
-        let nodes = ddcci::read_into(&text, &mut a.starts, &mut a.lengths, &mut a.parents, &mut a.groups).unwrap();
+        let nodes =
+            ddcci::read_capabilities_into(&text, &mut a.starts, &mut a.lengths, &mut a.parents, &mut a.groups).unwrap();
         assert_eq!(plain(&text, &mut b).unwrap(), nodes);
         assert_eq!((a.starts, a.lengths, a.parents, a.groups), (b.starts, b.lengths, b.parents, b.groups));
         let times = both(
             2_000_000 / length,
-            || ddcci::read_into(black_box(&text), &mut a.starts, &mut a.lengths, &mut a.parents, &mut a.groups),
+            || {
+                ddcci::read_capabilities_into(
+                    black_box(&text),
+                    &mut a.starts,
+                    &mut a.lengths,
+                    &mut a.parents,
+                    &mut a.groups,
+                )
+            },
             || plain(black_box(&text), &mut b),
         );
         line("  beside a plain one-pass reader", times);

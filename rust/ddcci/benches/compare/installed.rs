@@ -70,7 +70,7 @@ fn beside(name: &str, mut theirs: impl FnMut(&CStr) -> c_int) {
         let times = both(
             500,
             || {
-                ddcci::read_into(
+                ddcci::read_capabilities_into(
                     black_box(&text),
                     &mut lent.starts,
                     &mut lent.lengths,

@@ -19,7 +19,7 @@ fn ours(replies: &[Message], buffer: &mut [u8]) -> u16 {
     let mut transfer = Transfer::begin(TextKind::Table, buffer, 65_535).unwrap();
     let mut out = [0; 38];
     for reply in replies {
-        transfer.build(black_box(&mut out)).unwrap();
+        transfer.write_request(black_box(&mut out)).unwrap();
         transfer.receive(black_box(reply)).unwrap();
     }
     assert_eq!(transfer.state(), State::Done);

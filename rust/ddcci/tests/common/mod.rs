@@ -12,6 +12,15 @@ pub fn program(name: &str) -> PathBuf {
     path
 }
 
+/// An example that cargo has built beside the tests.
+pub fn example(name: &str) -> PathBuf {
+    let test = std::env::current_exe().expect("a test has a path");
+    let folder = test.parent().and_then(Path::parent).expect("a test stands in the folder deps of its profile");
+    let path = folder.join("examples").join(name);
+    assert!(path.exists(), "{} is missing: run `cargo build --examples` in rust/ first", path.display());
+    path
+}
+
 /// A C file of the repository, `c/NAME.c`, compiled with the headers and what else is named: another file of the repository, or an option.
 pub fn compiled(name: &str, more: &[&str]) -> PathBuf {
     let root = Path::new(env!("CARGO_MANIFEST_DIR")).join("../..");

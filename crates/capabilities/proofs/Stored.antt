@@ -26,15 +26,15 @@ stored-sets (x ∷ xs) t n = stored-sets xs (put t n x) (n + 1) ∙ rw add-one
 sets-over : (vs l : List ℕ) → length vs ≤ length l → sets l 0 vs ≡ over vs l
 sets-over vs l h = sets-eq vs l 0 (omega arith) ∙ ap (λ (k : ℕ). vs ++ drop k l) (zero-add (length vs))
 
-pub stored-over : (k : ℕ) (xs : List Node) (t : Buffers) → length xs ≤ bufferRoom t → stored t 0 xs ≡ written (Accepted k) xs t
-stored-over k xs t h =
+pub stored-over : (xs : List Node) (t : Buffers) → length xs ≤ bufferRoom t → stored t 0 xs ≡ written 0 xs t
+stored-over xs t h =
     let column : (f : Node → ℕ) (l : List ℕ) → length xs ≤ length l → sets l 0 (map f xs) ≡ over (map f xs) l =
     λ f l fits. sets-over (map f xs) l (omega (arith, length-map xs f)) in
     stored-sets xs t 0
     ∙ rw (column (λ x. x .start) (t .starts) (omega arith), column (λ x. x .size) (t .lengths) (omega arith), column (λ x. x .parent) (t .parents) (omega arith), column (λ x. x .group) (t .groups) (omega arith))
 
 pub filled : (n : ℕ) (s : List ℕ) (t t′ : Buffers) (next k : ℕ) → outcome (bufferRoom t) s ≡ Accepted n → Filled 1 (deepest - 1) 0 noParent s t t′ next k
-    → t′ ≡ written (Accepted n) (nodesOf s) t
+    → t′ ≡ written 0 (nodesOf s) t
 unfolding stored nodes nodesOf
 filled n s t t′ next k e f =
     let a = accepted (bufferRoom t) n s e in
@@ -43,4 +43,4 @@ filled n s t t′ next k e f =
     let whole : stored t 0 (nodesOf s) ≡ t′ = ap (stored t 0) (nodes-open (bufferRoom t) s (a .some) (a .opens)) ∙ f .same [] ∙ ended in
     let count = judge-count (bufferRoom t) 0 n s 0 [] before (sym (outcome-short (bufferRoom t) s (a .small)) ∙ e) in
     let room : n ≤ bufferRoom t = count .1 (omega arith) in
-    sym whole ∙ stored-over n (nodesOf s) t (omega (arith, count .0, room))
+    sym whole ∙ stored-over (nodesOf s) t (omega (arith, count .0, room))

@@ -10,3 +10,5 @@ pub mod Prefixes
 pub mod Refusals
 pub mod Exactly
 pub mod Theorems
+pub mod Demand2
+pub mod Refuted

@@ -1,14 +1,13 @@
 -- The four lent buffers: "Node room is the shortest of the four lent buffers, at most 512; entries past the nodes stay."
-use Prim.Native.Nat.{ℕ, min}
+use Prim.Native.Nat.{ℕ, zero, suc, min}
 use mathlib.Core.Path.{_≡_}
 use mathlib.Core.List.{List, _++_, map}
 use lib.ListN.{length, drop}
 use Rattle.capabilities_rules.specs.Limits.{mostNodes}
 use Rattle.capabilities_rules.specs.Grammar.{Node}
-use Rattle.capabilities_rules.specs.Outcome.{outcome}
+use Rattle.capabilities_rules.specs.Outcome.{told, outcome}
 use Rattle.capabilities_rules.specs.Nodes.{nodesOf}
 use Rattle.capabilities_rules.specs.declared.Reading.{Reading}
-use Rattle.capabilities_rules.specs.declared.Reading.the-variants.{Accepted, Refused}
 
 -- the room for nodes, from the lengths of the four buffers
 abbrev pub roomOf : ℕ → ℕ → ℕ → ℕ → ℕ
@@ -31,12 +30,12 @@ bufferRoom t = roomOf (length (t .starts)) (length (t .lengths)) (length (t .par
 abbrev pub over : List ℕ → List ℕ → List ℕ
 over xs old = xs ++ drop (length xs) old
 
--- the buffers after a reading that answers r: the nodes' values; "node buffers unchanged" if refused
-abbrev pub written : Reading → List Node → Buffers → Buffers
-written (Accepted n) xs t = buffers (over (map (λ x. x .start) xs) (t .starts)) (over (map (λ x. x .size) xs) (t .lengths)) (over (map (λ x. x .parent) xs) (t .parents)) (over (map (λ x. x .group) xs) (t .groups))
-written (Refused k p) xs t = t
+-- the buffers after an answer number: the nodes' values after 0, "node buffers unchanged" after any other
+abbrev pub written : ℕ → List Node → Buffers → Buffers
+written zero xs t = buffers (over (map (λ x. x .start) xs) (t .starts)) (over (map (λ x. x .size) xs) (t .lengths)) (over (map (λ x. x .parent) xs) (t .parents)) (over (map (λ x. x .group) xs) (t .groups))
+written (suc k) xs t = t
 
 -- what reading the string s with the buffers t ensures of its answer r and of the buffers t′ afterwards
 pub record Answered (s : List ℕ) (t t′ : Buffers) (r : Reading) : Type 0 where
   pub answer : r ≡ outcome (bufferRoom t) s
-  pub stored : t′ ≡ written r (nodesOf s) t
+  pub stored : t′ ≡ written (told r .number) (nodesOf s) t

@@ -3,8 +3,6 @@ use Prim.Native.Nat.{ℕ, suc, _+_, _≤_, max}
 use mathlib.Core.Path.{_≡_}
 use mathlib.Core.List.{List, [], _∷_, _++_}
 use lib.ListN.{length}
-use Rattle.message_rules.specs.Limits.{longestText}
-use Rattle.capabilities_rules.specs.Limits.{deepest}
 
 -- "bytes 21 to 7E other than the two brackets"
 pub record IsLetter (b : ℕ) : Type 0 where
@@ -74,9 +72,9 @@ nodesFrom p n none = []
 nodesFrom p n (word a k xs) = record { start = a; size = k; parent = p; group = 0 } ∷ nodesFrom p (n + 1) xs
 nodesFrom p n (group a k ys xs) = record { start = a; size = k; parent = p; group = 1 } ∷ nodesFrom n (n + 1) ys ++ nodesFrom p (n + 1 + size ys) xs
 
--- s is a text of the grammar within the limits of depth, node room and length, and its words are xs
+-- s is a text of the grammar within the limits of depth (8), node room and length (4,096), and its words are xs
 pub record Fits (room : ℕ) (s : List ℕ) (xs : Items) : Type 0 where
   pub grammar : Text xs s
-  pub deep : levels xs ≤ deepest
+  pub deep : levels xs ≤ 8
   pub roomy : size xs ≤ room
-  pub short : length s ≤ longestText
+  pub short : length s ≤ 4096

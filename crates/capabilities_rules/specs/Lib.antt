@@ -7,3 +7,4 @@ pub mod Nodes
 pub mod Buffers
 pub mod Prefixes
 pub mod Theorems
+pub mod Demand2

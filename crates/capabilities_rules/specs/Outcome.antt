@@ -4,7 +4,7 @@ use mathlib.Core.Bool.{Bool, true, false, cond}
 use mathlib.Core.List.{List, [], _∷_}
 use lib.ListN.{length}
 use lib.Dec.{leb}
-use Rattle.message_rules.specs.Answer.{textTooLong, wrongGrammar, noNodeRoom, tooDeep}
+use Rattle.message_rules.specs.Answer.{done, textTooLong, wrongGrammar, noNodeRoom, tooDeep}
 use Rattle.message_rules.specs.Limits.{longestText}
 use Rattle.capabilities_rules.specs.Limits.{deepest}
 use Rattle.capabilities_rules.specs.Machine.{kindOf, Phase, before, inside, after, act, to, depth}
@@ -12,6 +12,17 @@ use Rattle.capabilities_rules.specs.Kinds.{Act}
 use Rattle.capabilities_rules.specs.Kinds.{Enter, Leave, Begin, Extend, Skip, Refuse}
 use Rattle.capabilities_rules.specs.declared.Reading.{Reading}
 use Rattle.capabilities_rules.specs.declared.Reading.the-variants.{Accepted, Refused}
+
+-- what a reading stands for in document 01's words: an answer number, how many nodes, and the place; 0 where it has none
+pub record Told : Type 0 where
+  pub number : ℕ
+  pub nodes : ℕ
+  pub place : ℕ
+
+-- "If an answer is an enum, a definition gives this paper's number and values for each of its cases."
+abbrev pub told : Reading → Told
+told (Accepted n) = record { number = done; nodes = n; place = 0 }
+told (Refused k p) = record { number = k; nodes = 0; place = p .0 }
 
 -- refusal k at a position
 abbrev pub refused : ℕ → ℕ → Reading

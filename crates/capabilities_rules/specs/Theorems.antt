@@ -3,7 +3,6 @@ use Prim.Native.Nat.{ℕ}
 use mathlib.Core.Path.{_≡_}
 use mathlib.Core.List.{List, _++_}
 use mathlib.Core.Option.{some}
-use Rattle.capabilities_rules.specs.Limits.{noParent}
 use Rattle.capabilities_rules.specs.Grammar.{Items, Text, Fits, size, nodesFrom}
 use Rattle.capabilities_rules.specs.Machine.{Phase, before, run, runCapped}
 use Rattle.capabilities_rules.specs.Outcome.{refused, outcome}
@@ -19,7 +18,7 @@ pub record Theorems : Type 0 where
   -- a text has one tree ..
   pub unique : (s : List ℕ) (xs ys : Items) → Text xs s → Text ys s → xs ≡ ys
   -- .. and its nodes are those that the machine makes
-  pub noded : (s : List ℕ) (xs : Items) → Text xs s → nodesOf s ≡ nodesFrom noParent 0 xs
+  pub noded : (s : List ℕ) (xs : Items) → Text xs s → nodesOf s ≡ nodesFrom 65535 0 xs
   -- a refusal has its number and its position by the rule, and nothing is refused before it ..
   pub refusals : (room k p : ℕ) (s : List ℕ) → outcome room s ≡ refused k p → Why room s k p
   -- .. and wherever the rule says so, it is given

@@ -1,10 +1,11 @@
 // Runs document 01's unmarked examples of capabilities strings, and strings of real monitors, against worked-out answers.
 // Writes one line a group: how many of its strings were answered right.
+// Every expected number is the papers' own, as a numeral: none is named by a constant that is under test.
 use capabilities_rules::Reading;
-use capabilities_rules::limits::MOST_NODES;
 use libc::STDOUT_FILENO;
-use message_rules::answer;
-use message_rules::limits::LONGEST_TEXT;
+
+// The length of the four buffers: more than 512, so that the reader's own limit is seen.
+const ROOM: usize = 600;
 
 // What a string is to be answered: the number of nodes and their digest, or the answer number and its position.
 enum Wanted {
@@ -41,14 +42,14 @@ fn mix_node(digest: u32, start: u16, length: u16, parent: u16, group: u8) -> u32
 }
 
 fn digest(
-    starts: [u16; MOST_NODES],
-    lengths: [u16; MOST_NODES],
-    parents: [u16; MOST_NODES],
-    groups: [u8; MOST_NODES],
+    starts: [u16; ROOM],
+    lengths: [u16; ROOM],
+    parents: [u16; ROOM],
+    groups: [u8; ROOM],
     count: usize,
 ) -> u32 {
     let mut all: u32 = 0;
-    for i in 0usize..MOST_NODES {
+    for i in 0usize..ROOM {
         if i < count {
             all = mix_node(all, starts[i], lengths[i], parents[i], groups[i]);
         }
@@ -96,10 +97,10 @@ fn judged(reading: Reading, all: u32, wanted: Wanted) -> bool {
 
 // Whether a string, with room for `room` nodes, is answered as wanted.
 fn answers(text: &[u8], room: usize, wanted: Wanted) -> bool {
-    let mut starts = [0u16; MOST_NODES];
-    let mut lengths = [0u16; MOST_NODES];
-    let mut parents = [0u16; MOST_NODES];
-    let mut groups = [0u8; MOST_NODES];
+    let mut starts = [0u16; ROOM];
+    let mut lengths = [0u16; ROOM];
+    let mut parents = [0u16; ROOM];
+    let mut groups = [0u8; ROOM];
     let reading = capabilities::read(
         text,
         &mut starts,
@@ -132,7 +133,7 @@ fn tried(t: Tally, text: &[u8], room: usize, wanted: Wanted) -> Tally {
 
 // A string that is accepted, with so many nodes and this digest.
 fn nodes(t: Tally, text: &[u8], count: usize, digest: u32) -> Tally {
-    tried(t, text, MOST_NODES, Wanted::Nodes(count, digest))
+    tried(t, text, ROOM, Wanted::Nodes(count, digest))
 }
 
 // A string that is refused, with room for `room` nodes.
@@ -142,7 +143,7 @@ fn refused(t: Tally, text: &[u8], room: usize, number: u8, place: usize) -> Tall
 
 // A string whose grammar is wrong at this place.
 fn wrong(t: Tally, text: &[u8], place: usize) -> Tally {
-    refused(t, text, MOST_NODES, answer::WRONG_GRAMMAR, place)
+    refused(t, text, ROOM, 13, place)
 }
 
 fn report(name: &[u8], t: Tally) {
@@ -166,7 +167,7 @@ fn examples() {
     report(b"examples", t);
 }
 
-// What document 01 leaves to its reader's care: where a group may stand, spaces, bytes at the edges of the letters.
+// What document 01 leaves to its reader's care: where a group may stand, an empty one, and spaces.
 fn readings() {
     let mut t = none();
     t = wrong(t, b"", 0);
@@ -174,9 +175,22 @@ fn readings() {
     t = nodes(t, b"(a(b)c)", 3, 1290372201);
     t = wrong(t, b"(a(b) (c))", 6);
     t = nodes(t, b"(a )", 1, 196641);
+    t = nodes(t, b"(a())", 1, 196642);
+    report(b"readings", t);
+}
+
+// Bytes at the edges: 21 and 7E are letters; 1F, 7F, 80, FF and 00 are 13 at their place, in a word too.
+fn bytes() {
+    let mut t = none();
+    t = nodes(t, b"(!)", 1, 196641);
+    t = nodes(t, b"(~)", 1, 196641);
     t = wrong(t, b"(\x7f)", 1);
     t = wrong(t, b"(a\x1f)", 2);
-    report(b"readings", t);
+    t = wrong(t, b"(a\x7fb)", 2);
+    t = wrong(t, b"(a\x80b)", 2);
+    t = wrong(t, b"(ab\xffc)", 3);
+    t = wrong(t, b"(a\0b)", 2);
+    report(b"bytes at the edges", t);
 }
 
 // Stores a byte, where the buffer has the place.
@@ -219,19 +233,19 @@ fn depth() {
     nested(&mut nine, 18, 27);
     let mut t = none();
     t = nodes(t, &eight, 8, 4090424395);
-    t = refused(t, &nine, MOST_NODES, answer::TOO_DEEP, 16);
+    t = refused(t, &nine, ROOM, 15, 16);
     report(b"depth 8 and 9", t);
 }
 
 // 4,096 bytes are read; one more is 11 at 0.
 fn length() {
-    let mut longest = [0u8; LONGEST_TEXT];
-    listed(&mut longest, LONGEST_TEXT - 1, b'a', b'a');
-    let mut longer = [0u8; LONGEST_TEXT + 1];
-    listed(&mut longer, LONGEST_TEXT, b'a', b'a');
+    let mut longest = [0u8; 4096];
+    listed(&mut longest, 4095, b'a', b'a');
+    let mut longer = [0u8; 4097];
+    listed(&mut longer, 4096, b'a', b'a');
     let mut t = none();
     t = nodes(t, &longest, 1, 233478);
-    t = refused(t, &longer, MOST_NODES, answer::TEXT_TOO_LONG, 0);
+    t = refused(t, &longer, ROOM, 11, 0);
     report(b"4096 and 4097 bytes", t);
 }
 
@@ -239,20 +253,20 @@ fn length() {
 fn little_room(mut t: Tally) -> Tally {
     t = tried(t, b"()", 0, Wanted::Nodes(0, 0));
     t = tried(t, b"(  )", 0, Wanted::Nodes(0, 0));
-    t = refused(t, b"(a)", 0, answer::NO_NODE_ROOM, 1);
-    t = refused(t, b"(a b)", 1, answer::NO_NODE_ROOM, 3);
+    t = refused(t, b"(a)", 0, 14, 1);
+    t = refused(t, b"(a b)", 1, 14, 3);
     t
 }
 
-// 512 words are read; the next one is 14 at its first byte.
+// 512 words are read, although the buffers have room for more; the next one is 14 at its first byte.
 fn room() {
-    let mut most = [0u8; MOST_NODES * 2 + 2];
-    listed(&mut most, MOST_NODES * 2 + 1, b'a', b' ');
-    let mut more = [0u8; MOST_NODES * 2 + 4];
-    listed(&mut more, MOST_NODES * 2 + 3, b'a', b' ');
+    let mut most = [0u8; 1026];
+    listed(&mut most, 1025, b'a', b' ');
+    let mut more = [0u8; 1028];
+    listed(&mut more, 1027, b'a', b' ');
     let mut t = none();
     t = nodes(t, &most, 512, 162003968);
-    t = refused(t, &more, MOST_NODES, answer::NO_NODE_ROOM, 1025);
+    t = refused(t, &more, ROOM, 14, 1025);
     report(b"512 and 513 words", little_room(t));
 }
 
@@ -286,6 +300,7 @@ fn monitors() {
 fn main() {
     examples();
     readings();
+    bytes();
     depth();
     length();
     room();

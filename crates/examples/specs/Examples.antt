@@ -1,13 +1,12 @@
 -- Document 01, "Checked examples": every example marked [P], one table under one statement.
+-- Every number in it is the papers' own: none is named by a definition that the table tests.
 use Prim.Native.Nat.{ℕ}
 use mathlib.Core.Path.{_≡_}
 use mathlib.Core.List.{List, [], _∷_, map}
 use lib.ListN.{length}
 use mathlib.Core.Bool.{true}
-use Rattle.message_rules.specs.Answer.{done, wrongGrammar}
 use Rattle.message_rules.specs.Read.{ok}
 use Rattle.message_rules.specs.Message.{Request, getFeature, setFeature, timing, save, text, Reply, value, timingReply, textFragment, requests, replies, encode, decode, toDisplay, toHost}
-use Rattle.capabilities_rules.specs.Limits.{mostNodes, noParent}
 use Rattle.capabilities_rules.specs.Nodes.{nodesOf}
 use Rattle.capabilities_rules.specs.Outcome.{refused, outcome}
 use Rattle.capabilities_rules.specs.declared.Reading.the-variants.{Accepted}
@@ -33,14 +32,14 @@ abbrev pub Holds : Example → Type 0
 Holds (sent m s) = (encode requests toDisplay m ≡ s) × (decode requests toDisplay s ≡ ok m)
 Holds (answered m s) = (encode replies toHost m ≡ s) × (decode replies toHost s ≡ ok m)
 Holds (accepted s starts parents groups) =
-    (outcome mostNodes s ≡ Accepted (length starts))
+    (outcome 512 s ≡ Accepted (length starts))
     × (map (λ x. x .start) (nodesOf s) ≡ starts)
     × (map (λ x. x .parent) (nodesOf s) ≡ parents)
     × (map (λ x. x .group) (nodesOf s) ≡ groups)
-Holds (refusedAt s number place) = outcome mostNodes s ≡ refused number place
+Holds (refusedAt s number place) = outcome 512 s ≡ refused number place
 Holds (profiled d s) =
     let one = declareCode emptySettings d .settings in
-    (profileOf one ≡ s) × (loadProfile one s ≡ record { settings = one; answer = done; position = record { 0 = length s } })
+    (profileOf one ≡ s) × (loadProfile one s ≡ record { settings = one; answer = 0; position = record { 0 = length s } })
 
 abbrev pub All : List Example → Type 0
 All [] = Unit {0}
@@ -65,11 +64,11 @@ examples =
     ∷ answered (textFragment 0 []) (0x6E ∷ 0x83 ∷ 0xE3 ∷ 0x00 ∷ 0x00 ∷ 0x5E ∷ [])
     -- (vcp(10 14(05 08))): "starts 1, 5, 8, 11, 14; parents 65,535, 0, 0, 2, 2; groups at nodes 0 and 2"
     ∷ accepted (0x28 ∷ 0x76 ∷ 0x63 ∷ 0x70 ∷ 0x28 ∷ 0x31 ∷ 0x30 ∷ 0x20 ∷ 0x31 ∷ 0x34 ∷ 0x28 ∷ 0x30 ∷ 0x35 ∷ 0x20 ∷ 0x30 ∷ 0x38 ∷ 0x29 ∷ 0x29 ∷ 0x29 ∷ [])
-    (1 ∷ 5 ∷ 8 ∷ 11 ∷ 14 ∷ []) (noParent ∷ 0 ∷ 0 ∷ 2 ∷ 2 ∷ []) (1 ∷ 0 ∷ 1 ∷ 0 ∷ 0 ∷ [])
+    (1 ∷ 5 ∷ 8 ∷ 11 ∷ 14 ∷ []) (65535 ∷ 0 ∷ 0 ∷ 2 ∷ 2 ∷ []) (1 ∷ 0 ∷ 1 ∷ 0 ∷ 0 ∷ [])
     -- (): "no nodes"
     ∷ accepted (0x28 ∷ 0x29 ∷ []) [] [] []
     -- (a(b)(c)): "13 at 5"
-    ∷ refusedAt (0x28 ∷ 0x61 ∷ 0x28 ∷ 0x62 ∷ 0x29 ∷ 0x28 ∷ 0x63 ∷ 0x29 ∷ 0x29 ∷ []) wrongGrammar 5
+    ∷ refusedAt (0x28 ∷ 0x61 ∷ 0x28 ∷ 0x62 ∷ 0x29 ∷ 0x28 ∷ 0x63 ∷ 0x29 ∷ 0x29 ∷ []) 13 5
     -- "Sheet of code 10 at 50"
     ∷ profiled (record { code = 0x10; readable = true; writable = true; kind = 0; continuous = true; maximum = 100; present = 50 }) (0x05 ∷ 0x00 ∷ 0x01 ∷ 0x00 ∷ 0x10 ∷ 0x32 ∷ 0x00 ∷ [])
     ∷ []

@@ -1,15 +1,14 @@
 -- `capabilities_vectors::digest` is safe and ends: it goes through the entries in order.
 use Prim.Native.Nat.{_-_, _≤_}
-use Rattle.capabilities_rules.specs.Limits.{mostNodes}
 use borrow.Author.Needs.{needs}
 use Rattle.capabilities_vectors.proofs.digest.Statement.{statement}
 use Rattle.capabilities_vectors.proofs.digest.Tie as tie
 
 abbrev Inv-loop : tie.InvT-loop
-Inv-loop count starts lengths parents groups all₀ i₀ all i = i ≤ mostNodes
+Inv-loop count starts lengths parents groups all₀ i₀ all i = i ≤ 600
 
 abbrev μ-loop : tie.MeasureT-loop
-μ-loop count starts lengths parents groups all₀ i₀ all i = mostNodes - i
+μ-loop count starts lengths parents groups all₀ i₀ all i = 600 - i
 
 loop-holds : tie.Need-loop-holds Inv-loop μ-loop
 loop-holds c = search needs

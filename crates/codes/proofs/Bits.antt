@@ -3,15 +3,15 @@ use mathlib.Core.Path.{_≡_, refl, sym, ap, _∙_}
 use mathlib.Core.Bool.{Bool, true, false, cond, not, _||_}
 use mathlib.Core.Logic.{_⊎_, inl, inr, ⊎-elim}
 use Prim.Native.Nat.{ℕ, zero, suc, _+_, _-_, _*_, _/_, _%_, _^_, _≤_, _<_}
-use native.Mathlib.Nat.{mod-lt, div-one, le-of-suc-le-suc, mul-assoc, one-mul, add-sub-of-le, zero-div}
+use native.Mathlib.Nat.{mod-lt, div-one, le-of-suc-le-suc, mul-assoc, zero-mul, one-mul, add-sub-of-le, zero-div}
 use native.Mathlib.Numerals.{one-add}
 use native.Mathlib.Omega.{arith}
 use lib.Dec.{eqb}
 use lib.Pow.{pow-add, pow-pos, pow-lt, shr-shr, shl-shr, shl-exact, shr-mod}
-use lib.Bits.{bitOr, or-shr, or-mod, bitXor, xor-shr, xor-mod, bitAnd, and-high, shifted-even}
+use lib.Bits.{bitOr, or-shr, or-mod, or-add-and, bitXor, xor-shr, xor-mod, xor-add-and, bitAnd, and-high, shifted-even}
 use lib.Count.{trailingZeros, trailing-le}
 use borrow.Author.Tests.{eq-eqb, ne-eqb}
-use Rattle.codes.specs.Codes.{bit, bitAssigned}
+use Rattle.codes.specs.Codes.{bit, bitSet, bitCleared, bitAssigned}
 use Rattle.codes.specs.Words.{FirstBit}
 use Rattle.codes.proofs.Cases.{lt-or-le, eq-or-ne}
 
@@ -95,17 +95,51 @@ bit-or = bit-of-operation bitOr (λ p q. p || q) or-shr or-mod refl refl refl re
 pub bit-xor : (a b i : ℕ) → bit (bitXor a b) i ≡ cond (bit b i) (not (bit a i)) (bit a i)
 bit-xor = bit-of-operation bitXor (λ p q. cond q (not p) p) xor-shr xor-mod refl refl refl refl
 
+-- a word and a power of 2: that power, where the bit is set
+pub and-pow : (w s : ℕ) → bitAnd w (2 ^ s) ≡ cond (bit w s) (2 ^ s) 0
+unfolding bit
+and-pow w s =
+    let one : 2 ^ (1 + s) - 2 ^ s ≡ 2 ^ s = omega (arith, pow-add 2 1 s) in
+    ap (bitAnd w) (sym one) ∙ and-high w 1 s ∙ go (w / 2 ^ s % 2) (parity (w / 2 ^ s))
+  where
+    go : (x : ℕ) → (x ≡ 0) ⊎ (x ≡ 1) → x * 2 ^ s ≡ cond (eqb x 1) (2 ^ s) 0
+    go x (inl e) = rw e (zero-mul (2 ^ s))
+    go x (inr e) = rw e (one-mul (2 ^ s))
+
+-- or sets the bit
+pub or-sets : (w s : ℕ) → bitOr w (2 ^ s) ≡ bitSet w s
+or-sets w s = go (bit w s) (bitOr w (2 ^ s)) (bitAnd w (2 ^ s)) (2 ^ s) (and-pow w s) (or-add-and w (2 ^ s))
+  where
+    go : (t : Bool) (o a p : ℕ) → a ≡ cond t p 0 → o + a ≡ w + p → o ≡ cond t w (w + p)
+    go true o a p e f = omega arith
+    go false o a p e f = omega arith
+
+-- a bit that is set and turned over after that is cleared
+pub xor-clears : (w s : ℕ) → bitXor (bitOr w (2 ^ s)) (2 ^ s) ≡ bitCleared w s
+xor-clears w s =
+    let v = bitOr w (2 ^ s) in
+    let now : bit v s ≡ true = bit-or w (2 ^ s) s ∙ rw (bit-pow s s, eq-eqb s s refl) (either (bit w s)) in
+    go (bit w s) v (bitXor v (2 ^ s)) (bitAnd v (2 ^ s)) (2 ^ s) (or-sets w s) (and-pow v s ∙ rw now) (xor-add-and v (2 ^ s))
+  where
+    either : (t : Bool) → t || true ≡ true
+    either true = refl
+    either false = refl
+
+    go : (t : Bool) (v x a p : ℕ) → v ≡ cond t w (w + p) → a ≡ p → x + a * 2 ≡ v + p → x ≡ cond t (w - p) w
+    go true v x a p e f g = omega arith
+    go false v x a p e f g = omega arith
+
 -- a word with bit s set or cleared has its other bits as they were
 pub bit-assigned : (w s : ℕ) (inside : Bool) (j : ℕ) → bit (bitAssigned w s inside) j ≡ cond (eqb j s) inside (bit w j)
 unfolding bitAssigned
-bit-assigned w s true j = bit-or w (2 ^ s) j ∙ rw (bit-pow s j) (either (bit w j) (eqb j s))
+bit-assigned w s true j = rw (← or-sets w s) (bit-or w (2 ^ s) j ∙ rw (bit-pow s j) (either (bit w j) (eqb j s)))
   where
     either : (p q : Bool) → p || q ≡ cond q true p
     either true true = refl
     either true false = refl
     either false true = refl
     either false false = refl
-bit-assigned w s false j = bit-xor (bitOr w (2 ^ s)) (2 ^ s) j ∙ rw (bit-or w (2 ^ s) j, bit-pow s j) (either (bit w j) (eqb j s))
+bit-assigned w s false j = rw (← xor-clears w s) (bit-xor (bitOr w (2 ^ s)) (2 ^ s) j ∙ rw (bit-or w (2 ^ s) j, bit-pow s j) (either (bit w j) (eqb j s)))
   where
     either : (p q : Bool) → cond q (not (p || q)) (p || q) ≡ cond q false p
     either true true = refl

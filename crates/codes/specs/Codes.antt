@@ -5,7 +5,6 @@ use mathlib.Core.Bool.{Bool, true, cond}
 use mathlib.Core.List.{List}
 use lib.ListN.{getD, set, replicate}
 use lib.Dec.{eqb}
-use lib.Bits.{bitOr, bitXor}
 use Rattle.codes.specs.declared.Next.{Next}
 use Rattle.codes.specs.declared.Next.the-variants.{Code, Nothing}
 
@@ -25,9 +24,17 @@ member ws c = bit (getD ws (c / 64) 0) (c % 64)
 abbrev pub noCodes : List ℕ
 noCodes = replicate 4 0
 
--- the word w with bit i set or cleared: the bit is set, and to clear it turned over after that
+-- the word w with bit i set: 2 ^ i is added where it is not set yet
+abbrev pub bitSet : ℕ → ℕ → ℕ
+bitSet w i = cond (bit w i) w (w + 2 ^ i)
+
+-- the word w with bit i cleared: 2 ^ i is taken away where it is set
+abbrev pub bitCleared : ℕ → ℕ → ℕ
+bitCleared w i = cond (bit w i) (w - 2 ^ i) w
+
+-- the word w with bit i set or cleared
 unfoldable pub bitAssigned : ℕ → ℕ → Bool → ℕ
-bitAssigned w i inside = cond inside (bitOr w (2 ^ i)) (bitXor (bitOr w (2 ^ i)) (2 ^ i))
+bitAssigned w i inside = cond inside (bitSet w i) (bitCleared w i)
 
 -- the set with or without the code c
 unfoldable pub assigned : List ℕ → ℕ → Bool → List ℕ

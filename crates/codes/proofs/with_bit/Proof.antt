@@ -1,6 +1,6 @@
--- `with_bit` sets or clears by its flag.
+-- `with_bit` sets by or, and clears by turning over what it has set.
 use Rattle.codes.specs.Codes.{bitAssigned}
-use Rattle.codes.proofs.Bits.{shl-one}
+use Rattle.codes.proofs.Bits.{shl-one, or-sets, xor-clears}
 use borrow.Author.Needs.{needs}
 use Rattle.codes.proofs.with_bit.Statement.{statement}
 use Rattle.codes.proofs.with_bit.Tie as tie
@@ -10,11 +10,11 @@ shl-mask c = search needs
 
 returns : tie.Need-returns
 unfolding bitAssigned
-returns c = rw (c .if1 .taken, shl-one (c .before .args .s) (c .before .pre))
+returns c = let a = c .before .args in rw (c .if1 .taken, shl-one (a .s) (c .before .pre)) (or-sets (a .w) (a .s))
 
 returns-2 : tie.Need-returns-2
 unfolding bitAssigned
-returns-2 c = rw (c .if1 .left, shl-one (c .before .args .s) (c .before .pre))
+returns-2 c = let a = c .before .args in rw (c .if1 .left, shl-one (a .s) (c .before .pre)) (xor-clears (a .w) (a .s))
 
 pub with-bit-spec : {M : Type 1} → statement M
 with-bit-spec = tie.close (tie.spec shl-mask returns returns-2)

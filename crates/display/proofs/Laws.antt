@@ -83,10 +83,10 @@ part-length from n = omega arith
 -- a Set whose value is stored, and any other
 pub set-stored : (d : Display) (table : List ℕ) (c value : ℕ) → judgeSet (d .settings) c value .stored ≡ true
     → setTurn d table c value ≡ accepted (withSettings d (withPresent (d .settings) c value)) table noReply
-unfolding setTurn setCode judgeSet
+unfolding setTurn setCode
 set-stored d table c value e = rw (e, eqb-true (setAnswer (d .settings) c value) done (both (eqb (setAnswer (d .settings) c value) done) (not (member (d .settings .momentary) c)) e .0))
 
 pub set-kept : (d : Display) (table : List ℕ) (c value : ℕ) → judgeSet (d .settings) c value .stored ≡ false
     → setTurn d table c value ≡ refusal (judgeSet (d .settings) c value .answer) d table noReply
-unfolding setTurn setCode judgeSet
+unfolding setTurn setCode
 set-kept d table c value e = rw e

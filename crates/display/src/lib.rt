@@ -23,7 +23,6 @@ use message_reader::request::read_request;
 use message_rules::TO_DISPLAY;
 use message_rules::TextKind;
 use message_rules::answer;
-use message_rules::fields::status_allowed;
 use message_rules::limits::LONGEST_TEXT;
 use message_rules::limits::MOST_FRAGMENT;
 use message_rules::limits::OUTPUT_ROOM;
@@ -52,14 +51,15 @@ pub fn empty() -> Display
     fresh(settings::empty(), 0, 1)
 }
 
-// The answer to a start: the timing is judged first, then the text's length, then the fragment size.
-fn start_answer(status: u8, text: usize, size: u16) -> u8
-    ensures { λ r. ⌜ r ≡ startAnswer status text size ⌝ }
+// Returns the answer to a start, from the settings' answer to its timing.
+// The length of the capabilities string is judged next, then the fragment size.
+fn start_answer(timing: u8, text_len: usize, size: u16) -> u8
+    ensures { λ r. ⌜ r ≡ startAnswer timing «text_len» size ⌝ }
 {
-    if !status_allowed(status) {
-        return answer::NOT_DECLARABLE;
+    if timing != answer::DONE {
+        return timing;
     }
-    if LONGEST_TEXT < text {
+    if LONGEST_TEXT < text_len {
         return answer::TEXT_TOO_LONG;
     }
     if size == 0 {
@@ -75,7 +75,8 @@ fn start_answer(status: u8, text: usize, size: u16) -> u8
 pub fn start(timing: Timing, text: &[u8], size: u16) -> Changed
     ensures { λ r. ⌜ r ≡ start timing (length (now (text .entry))) size ⌝ }
 {
-    let answer = start_answer(timing.status, text.len(), size);
+    let begun = settings::start(timing);
+    let answer = start_answer(begun.answer, text.len(), size);
     if answer != answer::DONE {
         let display = empty();
         return Changed {
@@ -83,7 +84,6 @@ pub fn start(timing: Timing, text: &[u8], size: u16) -> Changed
             answer: answer,
         };
     }
-    let begun = settings::start(timing);
     let settings = begun.settings;
     let display = fresh(settings, text.len() as u16, size);
     Changed {

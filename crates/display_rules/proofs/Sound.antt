@@ -13,7 +13,7 @@ use Rattle.codes.specs.Codes.{allCodes}
 use Rattle.message_rules.specs.Answer.{done, wrongSize, wrongField, codeNotAllowed, notWanted, textTooLong, notDeclarable}
 use Rattle.message_rules.specs.Limits.{mostFragment}
 use Rattle.message_rules.specs.Message.{Request, getFeature, setFeature, timing, save, text, tableRead, tableWrite, requests, decode, Valid, null, toDisplay, toHost}
-use Rattle.message_rules.specs.Read.{Read, ok, refused}
+use Rattle.message_rules.specs.Read.{Read, ok, refused, unless}
 use Rattle.message_rules.proofs.RoundTrip.{requests-round}
 use Rattle.message_rules.proofs.Tests.{cond-zero}
 use Rattle.settings.specs.Entries as entries
@@ -53,22 +53,26 @@ size-allowed p = go (eqb p 0) (ltb mostFragment p) refl refl
     go false false x y h = (omega (arith, eqb-false p 0 x), ltb-false mostFragment p y)
 
 -- what an accepted start has shown
-pub start-accepted : (status n p : ℕ) → startAnswer status n p ≡ done → (reservedBits status ≡ 0) × (n ≤ longestText) × (not (sizeRefused p) ≡ true)
+pub start-accepted : (k n p : ℕ) → startAnswer k n p ≡ done → (k ≡ done) × (n ≤ longestText) × (not (sizeRefused p) ≡ true)
 unfolding startAnswer
-start-accepted status n p h =
-    let a = cond-zero (eqb (reservedBits status) 0) _ notDeclarable (λ (z : notDeclarable ≡ 0). omega arith) h in
-    let b = cond-zero (leb n longestText) _ textTooLong (λ (z : textTooLong ≡ 0). omega arith) (a .1) in
-    let e = cond-zero (not (sizeRefused p)) done notDeclarable (λ (z : notDeclarable ≡ 0). omega arith) (b .1) in
-    (eqb-true _ _ (a .0), leb-true _ _ (b .0), e .0)
+start-accepted k n p = go (eqb k done) refl
+  where
+    go : (t : Bool) → eqb k done ≡ t → unless t k (unless (leb n longestText) textTooLong (unless (not (sizeRefused p)) notDeclarable done)) ≡ done
+        → (k ≡ done) × (n ≤ longestText) × (not (sizeRefused p) ≡ true)
+    go false x h = absurd (eqb-false k done x h)
+    go true x h =
+        let a = cond-zero (leb n longestText) _ textTooLong (λ (z : textTooLong ≡ 0). omega arith) h in
+        let b = cond-zero (not (sizeRefused p)) done notDeclarable (λ (z : notDeclarable ≡ 0). omega arith) (a .1) in
+        (eqb-true k done x, leb-true _ _ (a .0), b .0)
 
 start-sound : (t : Timing) (n p : ℕ) → Sound (start t n p .display)
 unfolding start
-start-sound t n p = go (eqb (startAnswer (t .status) n p) done) refl
+start-sound t n p = go (eqb (startAnswer (startWith t .answer) n p) done) refl
   where
-    go : (b : Bool) → eqb (startAnswer (t .status) n p) done ≡ b → Sound (cond b (fresh (startWith t .settings) n p) emptyDisplay)
+    go : (b : Bool) → eqb (startAnswer (startWith t .answer) n p) done ≡ b → Sound (cond b (fresh (startWith t .settings) n p) emptyDisplay)
     go false h = empty-sound
     go true h =
-        let a = start-accepted (t .status) n p (eqb-true _ _ h) in
+        let a = start-accepted (startWith t .answer) n p (eqb-true _ _ h) in
         let f = size-allowed p (a .2) in
         fresh-sound (startWith t .settings) n p (start-is-sound t) (a .1) (f .0) (f .1)
 

@@ -5,7 +5,7 @@ use lib.Dec.{eqb, leb, ltb}
 use Rattle.message_rules.specs.Answer.{done, textTooLong, notDeclarable}
 use Rattle.message_rules.specs.Limits.{mostFragment}
 use Rattle.message_rules.specs.Read.{unless}
-use Rattle.settings.specs.Settings.{emptySettings, reservedBits, startWith, declareCode}
+use Rattle.settings.specs.Settings.{emptySettings, startWith, declareCode}
 use Rattle.settings.specs.declared.Declaration.{Declaration}
 use Rattle.settings.specs.declared.Settings.{Settings}
 use Rattle.settings.specs.declared.Timing.{Timing}
@@ -65,17 +65,17 @@ emptyDisplay = fresh emptySettings 0 1
 abbrev pub sizeRefused : ℕ → Bool
 sizeRefused p = eqb p 0 || ltb mostFragment p
 
--- "Timing with a reserved bit set is 18. The capability text is at most 4,096 bytes (else 11) .. A piece size 1 to 32 (else 18)."
-unfoldable pub startAnswer : (status text size : ℕ) → ℕ
-startAnswer status n p =
-    unless (eqb (reservedBits status) 0) notDeclarable
+-- The settings judge the timing first, with the answer k. "The capability text is at most 4,096 bytes (else 11) .. A piece size 1 to 32 (else 18)."
+unfoldable pub startAnswer : (timing text size : ℕ) → ℕ
+startAnswer k n p =
+    unless (eqb k done) k
     (unless (leb n longestText) textTooLong
     (unless (not (sizeRefused p)) notDeclarable done))
 
 unfoldable pub start : Timing → (text size : ℕ) → Changed
 start t n p = record {
-  display = cond (eqb (startAnswer (t .status) n p) done) (fresh (startWith t .settings) n p) emptyDisplay;
-  answer = startAnswer (t .status) n p;
+  display = cond (eqb (startAnswer (startWith t .answer) n p) done) (fresh (startWith t .settings) n p) emptyDisplay;
+  answer = startAnswer (startWith t .answer) n p;
 }
 
 -- ---- declaring is the settings' matter

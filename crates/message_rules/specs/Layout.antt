@@ -1,10 +1,11 @@
 -- Document 01's table of messages, as data: each row a command number and the layout of what stands behind it.
-use Prim.Native.Nat.{ℕ, _+_, _*_, _/_, _%_}
+use Prim.Native.Nat.{ℕ, _+_, _*_}
 use mathlib.Core.List.{List, [], _∷_}
 use mathlib.Core.Bool.{Bool, true, false, cond, _&&_}
 use lib.ListN.{getD}
 use lib.Dec.{eqb, ltb}
 use Rattle.message_rules.specs.Limits.{longestRequest, longestReply, mostWritten, mostFragment}
+use Rattle.message_rules.specs.Status.{reservedBits}
 use Rattle.message_rules.specs.declared.Direction.{Direction}
 use Rattle.message_rules.specs.declared.Direction.the-variants as way
 use Rattle.message_rules.specs.Row.{Layout, Kind, Row, Known, Unknown}
@@ -48,7 +49,7 @@ longest way.Reply = longestReply
 -- "Result and type are 0 or 1; status bits 5 to 2 are 0."
 abbrev pub replyRule : ReplyKind → List ℕ → Bool
 replyRule Value bytes = ltb (getD bytes 0 0) 2 && ltb (getD bytes 2 0) 2
-replyRule TimingReply bytes = eqb (getD bytes 0 0 / 4 % 16) 0
+replyRule TimingReply bytes = eqb (reservedBits (getD bytes 0 0)) 0
 replyRule TextFragment bytes = true
 replyRule TableFragment bytes = true
 

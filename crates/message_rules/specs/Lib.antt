@@ -1,5 +1,6 @@
 pub mod Answer
 pub mod Limits
+pub mod Status
 pub mod Read
 pub mod Row
 pub mod Layout

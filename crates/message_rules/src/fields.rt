@@ -1,8 +1,8 @@
 // What document 01 asks of the single bytes of a message, for readers and builders alike: specs/Layout.antt's `replyRule`.
 ghost use mathlib.Core.Path.{_≡_};
 ghost use mathlib.Core.Bool.{_&&_};
-ghost use Prim.Native.Nat.{_/_, _%_};
 ghost use lib.Dec.{eqb, ltb};
+ghost use Rattle.message_rules.specs.Status.{reservedBits};
 
 // A Value's result and type are 0 or 1.
 pub fn value_allowed(result: u8, kind: u8) -> bool
@@ -13,7 +13,7 @@ pub fn value_allowed(result: u8, kind: u8) -> bool
 
 // A timing's status has bits 5 to 2 zero.
 pub fn status_allowed(status: u8) -> bool
-    ensures { λ r. ⌜ r ≡ eqb (status / 4 % 16) 0 ⌝ }
+    ensures { λ r. ⌜ r ≡ eqb (reservedBits status) 0 ⌝ }
 {
     status / 4 % 16 == 0
 }

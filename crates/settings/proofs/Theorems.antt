@@ -151,7 +151,6 @@ pub empty-is-sound : EmptyIsSound
 empty-is-sound = starting-sound _ refl
 
 pub start-is-sound : StartIsSound
-unfolding startWith
 start-is-sound t = go (eqb (reservedBits (t .status)) 0) refl
   where
     go : (b : Bool) → eqb (reservedBits (t .status)) 0 ≡ b → Sound (startWith t .settings)

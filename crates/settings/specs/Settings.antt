@@ -1,9 +1,10 @@
 -- Document 01, "The board": what a device keeps for each VCP code, and what declaring, Get, Set, Save and Timing do with it.
-use Prim.Native.Nat.{ℕ, _/_, _%_}
+use Prim.Native.Nat.{ℕ}
 use mathlib.Core.Bool.{Bool, cond, not, _&&_, _||_}
 use lib.ListN.{getD, set, replicate}
 use lib.Dec.{eqb, ltb}
 use Rattle.message_rules.specs.Message.{tableCode}
+pub use Rattle.message_rules.specs.Status.{reservedBits}
 use Rattle.message_rules.specs.Answer.{done, codeNotAllowed, valueTooLarge, notDeclarable}
 use Rattle.codes.specs.Codes.{allCodes, member, noCodes, inserted, assigned}
 use Rattle.settings.specs.declared.Timing.{Timing}
@@ -46,12 +47,8 @@ emptySettings = startingSettings (record { status = 0; horizontal = 0; vertical 
 abbrev pub timingIn : Settings → Timing
 timingIn s = record { status = s .status; horizontal = s .horizontal; vertical = s .vertical }
 
--- "status bits 5 to 2"
-abbrev pub reservedBits : ℕ → ℕ
-reservedBits status = status / 4 % 16
-
 -- "Timing with a reserved bit set is 18." A refused start leaves the empty settings.
-unfoldable pub startWith : Timing → Change
+abbrev pub startWith : Timing → Change
 startWith timing =
     cond (eqb (reservedBits (timing .status)) 0)
     (record { answer = done; settings = startingSettings timing })
@@ -133,15 +130,15 @@ withPresent s c value = record {
   vertical = s .vertical;
 }
 
--- "Momentary: accepted, nothing stored."
-unfoldable pub judgeSet : Settings → ℕ → ℕ → Judgement
+-- what a Set comes to: its answer, and whether the value becomes the present one; "Momentary: accepted, nothing stored."
+abbrev pub judgeSet : Settings → ℕ → ℕ → Judgement
 judgeSet s c value = record { answer = setAnswer s c value; stored = eqb (setAnswer s c value) done && not (member (s .momentary) c) }
 
--- "Momentary: accepted, nothing stored. Else present is the value."
+-- "Else present is the value."
 unfoldable pub setCode : Settings → ℕ → ℕ → Change
 setCode s c value = record {
-  answer = setAnswer s c value;
-  settings = cond (eqb (setAnswer s c value) done && not (member (s .momentary) c)) (withPresent s c value) s;
+  answer = judgeSet s c value .answer;
+  settings = cond (judgeSet s c value .stored) (withPresent s c value) s;
 }
 
 -- ---- Save

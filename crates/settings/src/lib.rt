@@ -2,6 +2,7 @@
 //
 // Four yes-or-no properties of each code are code sets, as the set of declared codes is: the state is a third smaller than with an array of
 // flags for each, one proved test reads all five, and codes with several properties are found by whole words.
+use codes::Next;
 use message_rules::TABLE_CODE;
 use message_rules::answer::CODE_NOT_ALLOWED;
 use message_rules::answer::DONE;
@@ -10,7 +11,7 @@ use message_rules::answer::VALUE_TOO_LARGE;
 use message_rules::fields::status_allowed;
 ghost use mathlib.Core.Path.{_≡_};
 ghost use lib.ListN.{getD};
-ghost use Rattle.codes.specs.Codes.{member};
+ghost use Rattle.codes.specs.Codes.{member, countOf, nextOf};
 ghost use Rattle.settings.specs.Settings.{emptySettings, startingSettings, startWith, exceedsMaximum, accessRefused, declarationRefused, withDeclaration, declareCode, answerToSet, judgeSet, saveAll, typeNumber, getCode};
 
 // The type of a momentary code; a kept one is 0.
@@ -193,6 +194,22 @@ pub fn declare(s: Settings, d: Declaration) -> Change
         answer: DONE,
         settings: settings,
     }
+}
+
+// Returns how many codes are declared, at most 256.
+pub fn declared_count(s: Settings) -> u16
+    ensures { λ r. ⌜ r ≡ countOf (s .declared) ⌝ }
+{
+    let declared = s.declared;
+    codes::count(declared) as u16
+}
+
+// Returns the least declared code from the given number on, or nothing. From 256 on there is none.
+pub fn next_declared(s: Settings, from: u16) -> Next
+    ensures { λ r. ⌜ r ≡ nextOf (s .declared) from ⌝ }
+{
+    let declared = s.declared;
+    codes::next_from(declared, from)
 }
 
 // The answer to a Set, from what is kept of its code and whether the value is above the maximum.

@@ -2,7 +2,7 @@
 use mathlib.Core.Path.{_≡_}
 use borrow.Author.Tests.{eq-eqb, ne-eqb}
 use Rattle.codes.specs.Codes.{member}
-use Rattle.settings.specs.Settings.{setAnswer, judgeSet}
+use Rattle.settings.specs.Settings.{setAnswer}
 use borrow.Author.Needs.{needs}
 use Rattle.settings.proofs.judge_set.Statement.{statement}
 use Rattle.settings.proofs.judge_set.Tie as tie
@@ -32,18 +32,15 @@ momentary-found : (c : tie.After-contains3)
 momentary-found c = c .contains3 .ensures
 
 returns : tie.Need-returns
-unfolding judgeSet
 returns c = rw (← answered (c .before), ne-eqb _ _ (c .if1 .taken))
 
 contains-requires-3 : tie.Need-contains-requires-3
 contains-requires-3 c κs = search needs
 
 returns-2 : tie.Need-returns-2
-unfolding judgeSet
 returns-2 c = rw (← answered (c .before .before .before), eq-eqb _ _ (c .before .before .if1 .left), ← momentary-found (c .before), c .if2 .taken)
 
 returns-3 : tie.Need-returns-3
-unfolding judgeSet
 returns-3 c = rw (← answered (c .before .before .before), eq-eqb _ _ (c .before .before .if1 .left), ← momentary-found (c .before), c .if2 .left)
 
 pub judge-set-spec : {M : Type 1} → statement M

@@ -2,7 +2,7 @@
 use mathlib.Core.Path.{_≡_, sym, _∙_}
 use mathlib.Core.Bool.{true, false}
 use lib.Dec.{eqb}
-use Rattle.settings.specs.Settings.{reservedBits, startWith}
+use Rattle.settings.specs.Settings.{reservedBits}
 use borrow.Author.Needs.{needs}
 use Rattle.settings.proofs.start.Statement.{statement}
 use Rattle.settings.proofs.start.Tie as tie
@@ -14,7 +14,6 @@ starting-requires : tie.Need-starting-requires
 starting-requires c κs = search needs
 
 returns : tie.Need-returns
-unfolding startWith
 returns c =
     let clear : eqb (reservedBits (c .before .before .before .args .timing .status)) 0 ≡ true = sym (c .before .before .status-allowed .ensures) ∙ c .before .if1 .taken in
     rw (clear, c .starting .ensures)
@@ -23,7 +22,6 @@ empty-requires : tie.Need-empty-requires
 empty-requires c κs = search needs
 
 returns-2 : tie.Need-returns-2
-unfolding startWith
 returns-2 c =
     let reserved : eqb (reservedBits (c .before .before .before .args .timing .status)) 0 ≡ false = sym (c .before .before .status-allowed .ensures) ∙ c .before .if1 .left in
     rw (reserved, c .empty .ensures)

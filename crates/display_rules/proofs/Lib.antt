@@ -4,4 +4,8 @@ pub mod Sound
 pub mod Reading
 pub mod Tables
 pub mod Counting
+pub mod Operations
+pub mod Sizes
+pub mod Texts
+pub mod Starts
 pub mod Refuted

@@ -1,4 +1,4 @@
--- A read answers 0, moves the cursor by the paper's four sentences, and sends the bytes of the whole text from there; and the timing is always sent.
+-- A read answers 0, moves the cursor by the paper's four sentences, and sends the bytes of the whole text from there.
 use mathlib.Core.Path.{_≡_, refl, sym, ap, _∙_}
 use mathlib.Core.Logic.{_⊎_, ⊎-elim}
 use mathlib.Core.Bool.{Bool, true, false, cond, _||_}
@@ -11,15 +11,15 @@ use lib.Dec.{eqb}
 use borrow.Author.Tests.{eq-eqb, ne-eqb}
 use Rattle.checksum.specs.Bytes as bytes
 use Rattle.message_rules.specs.Body as body
-use Rattle.message_rules.specs.Message.{Request, requests, decode, encode, text, timing, Valid, toDisplay}
+use Rattle.message_rules.specs.Message.{Request, requests, decode, encode, text, Valid, toDisplay}
 use Rattle.message_rules.specs.Read.{ok}
 use Rattle.message_rules.proofs.RoundTrip.{requests-round}
 use Rattle.message_rules.specs.Message.{tableCode}
 use Rattle.display_rules.specs.State.{cursorAt, textState, cursorOf, withCursor}
-use Rattle.display_rules.specs.Turn.{bytesOf, timingTurn}
+use Rattle.display_rules.specs.Turn.{bytesOf}
 use Rattle.display_rules.specs.Fragments.{lesser, nextOffset, nextCursor, fragmentSize, fragmentAt, foundBytes, fragmentReply, readTurn, tableReadTurn}
 use Rattle.display_rules.specs.Step.{lentWell, turn, outcome, step}
-use Rattle.display_rules.specs.Statements.{Sound, Placed, whole, asksFor, Reads, ReadsFollow, TimingSent}
+use Rattle.display_rules.specs.Statements.{Sound, Placed, whole, asksFor, Reads, ReadsFollow}
 use Rattle.message_rules.specs.declared.TextKind.{TextKind}
 use Rattle.message_rules.specs.declared.TextKind.the-variants.{Capabilities, Table}
 use Rattle.display_rules.specs.declared.FragmentCursor.{FragmentCursor}
@@ -146,9 +146,6 @@ valid Capabilities q h = record { bytesCount = refl; wordsCount = refl; restCoun
 valid Table q h =
     record { bytesCount = refl; wordsCount = refl; restCount = omega arith; bytesFit = bytes.more {b = tableCode} (omega arith) bytes.none; wordsFit = word-valid h; restFit = bytes.none; ruled = refl }
 
-timing-valid : Valid requests timing
-timing-valid = record { bytesCount = refl; wordsCount = refl; restCount = omega arith; bytesFit = bytes.none; wordsFit = body.none; restFit = bytes.none; ruled = refl }
-
 asked : (k : TextKind) (d : Display) (lent table message out : List ℕ) (q : ℕ) → lentWell d (length lent) (length table) (length out) ≡ true
     → decode requests toDisplay message ≡ ok (asksFor k q) → step d lent table message out ≡ outcome (readTurn k d lent table q) out
 unfolding step turn tableReadTurn
@@ -162,8 +159,3 @@ pub reads-follow : ReadsFollow step
 reads-follow k d lent table out q m w h =
     rw (asked k d lent table (encode requests toDisplay (asksFor k q)) out q w (read-back (asksFor k q) (valid k q h)))
     (of-read k d lent table out q (made-is-sound d m) w)
-
-pub timing-sent : TimingSent step
-unfolding step turn timingTurn
-timing-sent d lent table out m w =
-    rw (w, read-back timing timing-valid, made-is-sound d m .settings .timing) (refl, refl)

@@ -5,3 +5,6 @@ pub mod Fragments
 pub mod Table
 pub mod Step
 pub mod Statements
+pub mod Operations
+pub mod Starts
+pub mod Texts

@@ -21,13 +21,12 @@ use Rattle.settings.specs.declared.Timing.{Timing}
 use Rattle.message_rules.specs.Limits.{longestText}
 use Rattle.display_rules.specs.Limits.{tableRoom}
 use Rattle.display_rules.specs.State.{startingCursor, cursorOf, withSettings, start, declare}
-use Rattle.display_rules.specs.Turn.{bytesOf, timingOf}
+use Rattle.display_rules.specs.Turn.{bytesOf}
 use Rattle.display_rules.specs.Fragments.{lesser, fragmentAt, foundBytes, fragmentReply}
 use Rattle.display_rules.specs.Table.{written}
 use Rattle.display_rules.specs.Step.{Outcome, lentWell}
 use Rattle.message_rules.specs.declared.TextKind.{TextKind}
 use Rattle.message_rules.specs.declared.TextKind.the-variants.{Capabilities, Table}
-use Rattle.settings.specs.Settings.{timingIn}
 use Rattle.display_rules.specs.declared.TextState.{TextState}
 use Rattle.display_rules.specs.declared.Display.{Display}
 use Rattle.display_rules.specs.declared.Found.the-variants.{Nothing}
@@ -165,13 +164,6 @@ WritesGoIn step = (d : Display) (lent table message out : List ℕ) (at : ℕ) (
     → (step d lent table message out .answer ≡ done)
     × (whole Table (step d lent table message out .display) lent (step d lent table message out .table) ≡ tableAfter (whole Table d lent table) at s)
     × (cursorOf Table (step d lent table message out .display) ≡ startingCursor)
-
--- ---- the timing is always sent
-
-abbrev pub TimingSent : StepRule → Type 0
-TimingSent step = (d : Display) (lent table out : List ℕ) → Made step d → lentWell d (length lent) (length table) (length out) ≡ true
-    → (step d lent table (encode requests toDisplay timing) out .answer ≡ done)
-    × (step d lent table (encode requests toDisplay timing) out .out ≡ over (bytesOf (timingOf (timingIn (d .settings)))) out)
 
 -- ---- the number declared
 

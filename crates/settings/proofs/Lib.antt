@@ -1,4 +1,5 @@
 pub mod Answers
 pub mod Stores
 pub mod Theorems
+pub mod Operations
 pub mod Values

@@ -1,0 +1,176 @@
+-- The step follows the paper's sentences on Table write, and the numbers of Text and Table read: the theorems of specs/Texts.antt.
+use mathlib.Core.Path.{_≡_, refl, sym, ap, _∙_}
+use mathlib.Core.Bool.{Bool, true, false, cond}
+use mathlib.Core.List.{List, _++_}
+use Prim.Native.Nat.{ℕ, _+_, _-_, _≤_, _<_}
+use native.Mathlib.Omega.{arith}
+use lib.ListN.{length, getD, take, drop, length-append, length-drop, List·getD-append}
+use lib.Seq.{length-take-le, getD-take, getD-drop, getD-append-add}
+use lib.Dec.{eqb, ltb}
+use borrow.Author.Tests.{eqb-true, eqb-false, eq-eqb, ne-eqb, le-leb, lt-leb, ltb-false, le-ltb}
+use Rattle.message_rules.specs.Message.{text, tableRead, tableWrite, null, toHost}
+use Rattle.message_rules.proofs.Order.{null-read}
+use Rattle.display_rules.specs.Turn.{refusal}
+use Rattle.display_rules.specs.Fragments.{readTurn, tableReadTurn}
+use Rattle.display_rules.specs.Table.{writeAnswer, lengthAfter, written, tableWriteTurn}
+use Rattle.display_rules.specs.Step.{outcome, step}
+use Rattle.display_rules.specs.Texts.{Writes, WriteNumbers, TableReads, ReadNumbers}
+use Rattle.display_rules.specs.declared.Display.{Display}
+use Rattle.display_rules.proofs.Sound.{write-accepted}
+use Rattle.display_rules.proofs.Operations.{obeys, replies-with}
+
+-- ---- a byte of the buffer after a write
+
+module _ (table s : List ℕ) (at : ℕ) (fits : at + length s ≤ length table) where
+  front-length : length (take at table) ≡ at
+  front-length = length-take-le at table (omega arith)
+
+  -- the bytes from the offset on
+  from-offset : (i : ℕ) → getD (written table at s) (at + i) 0 ≡ getD (s ++ drop (at + length s) table) i 0
+  from-offset i =
+      ap (λ (n : ℕ). getD (written table at s) (n + i) 0) (sym front-length)
+      ∙ getD-append-add (take at table) (s ++ drop (at + length s) table) i 0
+
+  byte-inside : (i : ℕ) → i < length s → getD (written table at s) (at + i) 0 ≡ getD s i 0
+  byte-inside i h = from-offset i ∙ List·getD-append s (drop (at + length s) table) 0 i h
+
+  byte-before : (i : ℕ) → i < at → getD (written table at s) i 0 ≡ getD table i 0
+  byte-before i h = List·getD-append (take at table) (s ++ drop (at + length s) table) 0 i (omega (arith, front-length)) ∙ getD-take at table i 0 h
+
+  byte-behind : (i : ℕ) → at + length s ≤ i → getD (written table at s) i 0 ≡ getD table i 0
+  byte-behind i h =
+      let j : ℕ = i - (at + length s) in
+      let e : at + (length s + j) ≡ i = omega arith in
+      let f : at + length s + j ≡ i = omega arith in
+      ap (λ (n : ℕ). getD (written table at s) n 0) (sym e)
+      ∙ from-offset (length s + j)
+      ∙ getD-append-add s (drop (at + length s) table) j 0
+      ∙ getD-drop (at + length s) table j 0
+      ∙ ap (λ (n : ℕ). getD table n 0) f
+
+  buffer-length : length (written table at s) ≡ length table
+  buffer-length = simp (length-append, length-drop) (omega (arith, front-length))
+
+-- ---- the numbers
+
+module _ (c old at n : ℕ) where
+  code-8 : (c ≡ 0xF4 → ⊥) → writeAnswer c old at n ≡ 8
+  unfolding writeAnswer
+  code-8 h = rw (ne-eqb c 0xF4 h)
+
+  gap-10 : c ≡ 0xF4 → old < at → writeAnswer c old at n ≡ 10
+  unfolding writeAnswer
+  gap-10 e h = rw (eq-eqb c 0xF4 e, lt-leb at old h)
+
+  long-11 : c ≡ 0xF4 → at ≤ old → 1024 < at + n → writeAnswer c old at n ≡ 11
+  unfolding writeAnswer
+  long-11 e h l = rw (eq-eqb c 0xF4 e, le-leb at old h, lt-leb (at + n) 1024 l)
+
+  fits-0 : c ≡ 0xF4 → at ≤ old → at + n ≤ 1024 → writeAnswer c old at n ≡ 0
+  unfolding writeAnswer
+  fits-0 e h l = rw (eq-eqb c 0xF4 e, le-leb at old h, le-leb (at + n) 1024 l)
+
+module _ (old at n : ℕ) where
+  length-anew : at ≡ 0 → lengthAfter old at n ≡ n
+  unfolding lengthAfter
+  length-anew e = rw (eq-eqb at 0 e)
+
+  length-grown : 0 < at → old ≤ at + n → lengthAfter old at n ≡ at + n
+  unfolding lengthAfter
+  length-grown h l = rw (ne-eqb at 0 (λ e. omega arith)) (go (ltb old (at + n)) refl)
+    where
+      go : (t : Bool) → ltb old (at + n) ≡ t → cond t (at + n) old ≡ at + n
+      go true e = refl
+      go false e = let m : at + n ≤ old = ltb-false old (at + n) e in omega arith
+
+  length-within : 0 < at → at + n ≤ old → lengthAfter old at n ≡ old
+  unfolding lengthAfter
+  length-within h l = rw (ne-eqb at 0 (λ e. omega arith), le-ltb old (at + n) l)
+
+-- ---- a write
+
+module _ (d : Display) (table out : List ℕ) (c at : ℕ) (s : List ℕ) (room : length table ≡ 1024) where
+  answer : ℕ
+  answer = writeAnswer c (d .table .len) at (length s)
+
+  of-accepted : answer ≡ 0 → Writes d table out c at s (outcome (tableWriteTurn d table c at s) out)
+  unfolding answer tableWriteTurn
+  of-accepted a =
+      let old : ℕ = d .table .len in
+      let shown = write-accepted c old at (length s) a in
+      let fits : at + length s ≤ length table = omega (arith, shown .2) in
+      rw a
+      (record {
+        code = λ n. absurd (n (shown .0));
+        gap = λ e l. absurd (omega (arith, shown .1));
+        long = λ e h l. absurd (omega (arith, shown .2));
+        otherwise = λ e h l. refl;
+        refused = λ n. absurd (n refl);
+        inside = λ e i h. byte-inside table s at fits i h;
+        before = byte-before table s at fits;
+        behind = byte-behind table s at fits;
+        buffer = buffer-length table s at fits;
+        anew = λ e z. length-anew old at (length s) z;
+        grown = λ e h l. length-grown old at (length s) h l;
+        within = λ e h l. length-within old at (length s) h l;
+        offset = λ e. refl;
+        len = λ e. refl;
+        reply = record { len = refl; bytes = refl; found = refl };
+        settings = refl;
+        capabilities = refl;
+        size = refl;
+      })
+
+  of-refused : (answer ≡ 0 → ⊥) → Writes d table out c at s (outcome (tableWriteTurn d table c at s) out)
+  unfolding answer tableWriteTurn
+  of-refused n =
+      let old : ℕ = d .table .len in
+      rw (ne-eqb answer 0 n)
+      (record {
+        code = code-8 c old at (length s);
+        gap = gap-10 c old at (length s);
+        long = long-11 c old at (length s);
+        otherwise = fits-0 c old at (length s);
+        refused = λ e. record { display = refl; table = refl };
+        inside = λ e. absurd (n e);
+        before = λ i h. refl;
+        behind = λ i h. refl;
+        buffer = refl;
+        anew = λ e. absurd (n e);
+        grown = λ e. absurd (n e);
+        within = λ e. absurd (n e);
+        offset = λ e. absurd (n e);
+        len = λ e. absurd (n e);
+        reply = record { len = refl; bytes = refl; found = refl };
+        settings = refl;
+        capabilities = refl;
+        size = refl;
+      })
+
+  of-write : Writes d table out c at s (outcome (tableWriteTurn d table c at s) out)
+  of-write = go (eqb answer 0) refl
+    where
+      go : (t : Bool) → eqb answer 0 ≡ t → Writes d table out c at s (outcome (tableWriteTurn d table c at s) out)
+      go true e = of-accepted (eqb-true _ _ e)
+      go false e = of-refused (eqb-false _ _ e)
+
+pub write-numbers : WriteNumbers step
+write-numbers d lent table message out c at s w r = rw (obeys d lent table message out (tableWrite c at s) w r) (of-write d table out c at s (w .table))
+
+-- ---- a read
+
+of-table-read : (d : Display) (lent table out : List ℕ) (c q : ℕ) → TableReads d table out c (outcome (tableReadTurn d lent table c q) out)
+unfolding tableReadTurn readTurn
+of-table-read d lent table out c q = record {
+  code = λ n. rw (ne-eqb c 0xF4 n);
+  otherwise = λ e. rw (eq-eqb c 0xF4 e);
+  null = λ n. rw (ne-eqb c 0xF4 n) (replies-with 3 _ out (refusal 8 d table (null toHost)) (null-read .fixed) refl refl);
+  stays = λ n. rw (ne-eqb c 0xF4 n) (record { display = refl; table = refl });
+}
+
+pub read-numbers : ReadNumbers step
+unfolding readTurn
+read-numbers = record {
+  text = λ d lent table message out q w r. rw (obeys d lent table message out (text q) w r);
+  table = λ d lent table message out c q w r. rw (obeys d lent table message out (tableRead c q) w r) (of-table-read d lent table out c q);
+}

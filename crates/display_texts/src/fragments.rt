@@ -8,13 +8,14 @@ use display_rules::TextState;
 use message_rules::TextKind;
 use message_rules::TextOffset;
 
+// Returns the lesser of two numbers.
 pub fn lesser(a: u16, b: u16) -> u16
     ensures { λ r. ⌜ r ≡ lesser a b ⌝ }
 {
     if a < b { a } else { b }
 }
 
-// Where a read at the offset q goes.
+// Returns the offset that a read at the offset q goes to.
 fn next_offset(c: FragmentCursor, q: TextOffset) -> TextOffset
     ensures { λ r. ⌜ r .0 ≡ nextOffset c (q .0) ⌝ }
 {
@@ -28,7 +29,7 @@ fn next_offset(c: FragmentCursor, q: TextOffset) -> TextOffset
     TextOffset(0)
 }
 
-// The fragment that a read at the offset q finds.
+// Returns the fragment that a read at the offset q finds.
 pub fn next_cursor(size: u16, t: TextState, q: TextOffset) -> FragmentCursor
     ensures { λ r. ⌜ r ≡ nextCursor size t (q .0) ⌝ }
 {
@@ -44,28 +45,29 @@ pub fn next_cursor(size: u16, t: TextState, q: TextOffset) -> FragmentCursor
     FragmentCursor { offset: at, len: 0 }
 }
 
-// The n bytes of a slice from a number on, or those of them that there are.
-fn part<'a>(s: &'a [u8], from: usize, n: usize) -> &'a [u8]
-    ensures { λ r. ⌜ now r ≡ take n (drop from (now (s .entry))) ⌝ }
+// Returns the n bytes of a text from an offset on, or those of them that there are.
+fn part<'a>(s: &'a [u8], from: TextOffset, n: usize) -> &'a [u8]
+    ensures { λ r. ⌜ now r ≡ take n (drop (from .0) (now (s .entry))) ⌝ }
 {
-    if s.len() <= from {
+    let at = from.0 as usize;
+    if s.len() <= at {
         return &s[..0];
     }
-    if n < s.len() - from {
-        return &s[from..from + n];
+    if n < s.len() - at {
+        return &s[at..at + n];
     }
-    &s[from..]
+    &s[at..]
 }
 
-// The fragment that a step found, as a part of whichever of the two lent texts was asked for. The table is lent as its buffer.
+// Returns the fragment that a step found, as a part of whichever of the two lent texts was asked for.
+// The table is lent as its buffer.
 pub fn handed_back<'a>(text: &'a [u8], table: &'a [u8], found: Found) -> &'a [u8]
     ensures { λ r. ⌜ now r ≡ foundBytes (now (text .entry)) (now (table .entry)) found ⌝ }
 {
     match found {
         Found::Nothing => &text[..0],
         Found::Fragment(kind, cursor) => {
-            let offset = cursor.offset;
-            let from = offset.0 as usize;
+            let from = cursor.offset;
             let n = cursor.len as usize;
             match kind {
                 TextKind::Capabilities => part(text, from, n),

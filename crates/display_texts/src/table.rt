@@ -13,18 +13,20 @@ use message_rules::TABLE_CODE;
 use message_rules::TextOffset;
 use message_rules::answer;
 
-// What a write comes to: an answer number, and the table's length afterwards.
+// What a write comes to.
 pub struct Writing {
+    // The answer number.
     pub answer: u8,
+    // The table's length afterwards.
     pub len: u16,
 }
 
-// A text of which nothing was sent.
-pub fn unsent(length: u16) -> TextState
-    ensures { λ r. ⌜ r ≡ unsent length ⌝ }
+// Returns the state of a text of `len` bytes of which nothing was sent.
+pub fn unsent(len: u16) -> TextState
+    ensures { λ r. ⌜ r ≡ unsent len ⌝ }
 {
     TextState {
-        len: length,
+        len: len,
         cursor: FragmentCursor {
             offset: TextOffset(0),
             len: 0,
@@ -32,43 +34,46 @@ pub fn unsent(length: u16) -> TextState
     }
 }
 
-// The answer to a write of n bytes at an offset of a table of `old` bytes.
-fn write_answer(code: u8, old: u16, at: u16, n: usize) -> u8
+// Returns the answer to a write of n bytes at an offset of a table of `old` bytes.
+fn write_answer(code: u8, old: u16, at: TextOffset, n: usize) -> u8
     requires { ⌜ n < 9223372036854775808 ⌝ }
-    ensures { λ r. ⌜ r ≡ writeAnswer code old at n ⌝ }
+    ensures { λ r. ⌜ r ≡ writeAnswer code old (at .0) n ⌝ }
 {
     if code != TABLE_CODE {
         return answer::CODE_NOT_ALLOWED;
     }
-    if old < at {
+    if old < at.0 {
         return answer::NOT_WANTED;
     }
-    if TABLE_ROOM < at as usize + n {
+    if TABLE_ROOM < at.0 as usize + n {
         return answer::TEXT_TOO_LONG;
     }
     answer::DONE
 }
 
-// The table's length after that write.
-fn length_after(old: u16, at: u16, n: u16) -> u16
-    requires { ⌜ at + n ≤ tableRoom ⌝ }
-    ensures { λ r. ⌜ r ≡ lengthAfter old at n ⌝ }
+// Returns the table's length after that write.
+fn length_after(old: u16, at: TextOffset, n: u16) -> u16
+    requires { ⌜ at .0 + n ≤ tableRoom ⌝ }
+    ensures { λ r. ⌜ r ≡ lengthAfter old (at .0) n ⌝ }
 {
-    if at == 0 {
+    if at.0 == 0 {
         return n;
     }
-    if old < at + n { at + n } else { old }
+    if old < at.0 + n { at.0 + n } else { old }
 }
 
-// Puts the bytes at the offset.
-fn put(data: &[u8], at: usize, table: &mut [u8])
-    requires { ⌜ at + length (now «data») ≤ length (now table) ⌝ }
-    ensures { λ _. ⌜ now (table .exit) ≡ written (now (table .entry)) at (now («data» .entry)) ⌝ }
+// Puts the bytes into the table's buffer at the offset.
+fn put(data: &[u8], at: TextOffset, table: &mut [u8])
+    requires { ⌜ at .0 + length (now «data») ≤ length (now table) ⌝ }
+    ensures { λ _. ⌜ now (table .exit) ≡ written (now (table .entry)) (at .0) (now («data» .entry)) ⌝ }
 {
-    bytes::copy(data, &mut table[at..]);
+    let from = at.0 as usize;
+    bytes::copy(data, &mut table[from..]);
 }
 
-// A write of the bytes at an offset of a table of `old` bytes, into the table's buffer. 1 for a buffer that is too small, which no step passes on.
+// Writes the bytes at an offset of a table of `old` bytes, into the table's buffer.
+// Returns the answer, and the table's length afterwards.
+// The answer is 1 for a buffer that is too small; no step passes one on.
 pub fn write(old: u16, table: &mut [u8], code: u8, at: TextOffset, data: &[u8]) -> Writing
     ensures { λ r. ⌜ Writes old code (at .0) (now («data» .entry)) (now (table .entry)) (now (table .exit)) r ⌝ }
 {
@@ -78,10 +83,10 @@ pub fn write(old: u16, table: &mut [u8], code: u8, at: TextOffset, data: &[u8]) 
             len: old,
         };
     }
-    let answer = write_answer(code, old, at.0, data.len());
+    let answer = write_answer(code, old, at, data.len());
     if answer == answer::DONE {
-        put(data, at.0 as usize, table);
-        let length = length_after(old, at.0, data.len() as u16);
+        put(data, at, table);
+        let length = length_after(old, at, data.len() as u16);
         return Writing {
             answer: answer,
             len: length,

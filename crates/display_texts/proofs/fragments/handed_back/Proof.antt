@@ -12,9 +12,6 @@ slice-aggregate-result c = search needs
 enum-known-found : tie.Need-enum-known-found
 enum-known-found c = search needs
 
-cast-from : tie.Need-cast-from
-cast-from c = search needs
-
 cast-n : tie.Need-cast-n
 cast-n c = search needs
 
@@ -34,10 +31,10 @@ returns : tie.Need-returns
 returns c = search needs
 
 returns-2 : tie.Need-returns-2
-returns-2 c = rw (c .before .before .before .before .before .before .before .found .given .1, c .before .enum-told2 .given .1) (c .part .ensures)
+returns-2 c = rw (c .before .before .before .before .before .before .found .given .1, c .before .enum-told2 .given .1) (c .part .ensures)
 
 returns-3 : tie.Need-returns-3
-returns-3 c = rw (c .before .before .before .before .before .before .before .found .given .1, c .before .enum-told3 .given .1) (c .part2 .ensures)
+returns-3 c = rw (c .before .before .before .before .before .before .found .given .1, c .before .enum-told3 .given .1) (c .part2 .ensures)
 
 pub handed-back-spec : {M : Type 1} → statement M
 handed-back-spec =
@@ -46,7 +43,6 @@ handed-back-spec =
     enum-told
     slice-aggregate-result
     enum-known-found
-    cast-from
     cast-n
     enum-told-2
     part-requires

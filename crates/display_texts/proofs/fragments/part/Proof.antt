@@ -8,11 +8,14 @@ use borrow.Author.Needs.{needs}
 use Rattle.display_texts.proofs.fragments.part.Statement.{statement}
 use Rattle.display_texts.proofs.fragments.part.Tie as tie
 
+cast-at : tie.Need-cast-at
+cast-at c = search needs
+
 slice-aggregate-result : tie.Need-slice-aggregate-result
 slice-aggregate-result c = search needs
 
 returns : tie.Need-returns
-returns c = rw (drop-of-length-le (c .before .before .args .s .now) (c .before .if1 .taken)) (sym (take-nil (c .before .before .args .n)))
+returns c = rw (drop-of-length-le (c .before .before .before .args .s .now) (c .before .if1 .taken)) (sym (take-nil (c .before .before .before .args .n)))
 
 sub-if2 : tie.Need-sub-if2
 sub-if2 c = search needs
@@ -31,8 +34,8 @@ part-result-end c = search needs
 
 returns-2 : tie.Need-returns-2
 returns-2 c =
-    let a = c .before .before .before .args in
-    let e : a .from + a .n - a .from ≡ a .n = omega arith in
+    let a = c .before .before .before .before .args in
+    let e : a .from .0 + a .n - a .from .0 ≡ a .n = omega arith in
     rw e
 
 sub-result-2 : tie.Need-sub-result-2
@@ -46,15 +49,16 @@ part-result-end-2 c = search needs
 
 returns-3 : tie.Need-returns-3
 returns-3 c =
-    let a = c .before .before .before .args in
-    let rest = drop (a .from) (a .s .now) in
-    let l : length rest ≡ length (a .s .now) - a .from = length-drop (a .from) (a .s .now) in
-    take-all (length (a .s .now) - a .from) rest (omega arith) ∙ sym (take-all (a .n) rest (omega arith))
+    let a = c .before .before .before .before .args in
+    let rest = drop (a .from .0) (a .s .now) in
+    let l : length rest ≡ length (a .s .now) - a .from .0 = length-drop (a .from .0) (a .s .now) in
+    take-all (length (a .s .now) - a .from .0) rest (omega arith) ∙ sym (take-all (a .n) rest (omega arith))
 
 pub part-spec : {M : Type 1} → statement M
 part-spec =
     tie.close
     (tie.spec
+    cast-at
     slice-aggregate-result
     returns
     sub-if2

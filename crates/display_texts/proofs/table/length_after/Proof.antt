@@ -17,11 +17,11 @@ add-result c = search needs
 
 returns-2 : tie.Need-returns-2
 unfolding lengthAfter
-returns-2 c = rw (ne-eqb _ _ (c .before .if1 .left), lt-ltb _ _ (c .if2 .taken))
+returns-2 c = rw (ne-eqb _ _ (c .before .before .before .if1 .left), lt-ltb _ _ (c .before .if2 .taken))
 
 returns-3 : tie.Need-returns-3
 unfolding lengthAfter
-returns-3 c = rw (ne-eqb _ _ (c .before .if1 .left), le-ltb _ _ (c .if2 .left))
+returns-3 c = rw (ne-eqb _ _ (c .before .before .if1 .left), le-ltb _ _ (c .if2 .left))
 
 pub length-after-spec : {M : Type 1} → statement M
 length-after-spec = tie.close (tie.spec returns add-if2 add-result returns-2 returns-3)

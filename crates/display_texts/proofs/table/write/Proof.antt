@@ -22,23 +22,20 @@ returns c = record { answers = rw (lt-leb tableRoom (length (c .before .before .
 write-answer-requires : tie.Need-write-answer-requires
 write-answer-requires c κs = search needs
 
-cast-put : tie.Need-cast-put
-cast-put c = search needs
-
 put-requires : tie.Need-put-requires
-put-requires c κs = omega (arith, write-accepted _ _ _ _ (sym (c .before .before .before .write-answer .ensures) ∙ c .before .before .if2 .taken) .2)
+put-requires c κs = omega (arith, write-accepted _ _ _ _ (sym (c .before .before .write-answer .ensures) ∙ c .before .if2 .taken) .2)
 
 cast-length-after : tie.Need-cast-length-after
-cast-length-after c = omega (arith, write-accepted _ _ _ _ (sym (c .before .before .before .before .before .before .write-answer .ensures) ∙ c .before .before .before .before .before .if2 .taken) .2)
+cast-length-after c = omega (arith, write-accepted _ _ _ _ (sym (c .before .before .before .before .before .write-answer .ensures) ∙ c .before .before .before .before .if2 .taken) .2)
 
 length-after-requires : tie.Need-length-after-requires
-length-after-requires c κs = write-accepted _ _ _ _ (sym (c .before .before .before .before .before .before .write-answer .ensures) ∙ c .before .before .before .before .before .if2 .taken) .2
+length-after-requires c κs = write-accepted _ _ _ _ (sym (c .before .before .before .before .before .write-answer .ensures) ∙ c .before .before .before .before .if2 .taken) .2
 
 same-length : tie.Need-same-length
 same-length c = search needs
 
 returns-2 : tie.Need-returns-2
-returns-2 c = record { answers = roomy _ _ _ _ _ _ (c .before .before .before .before .before .before .before .before .if1 .left) (c .before .before .before .before .before .before .before .write-answer .ensures); lengthens = rw (c .before .before .before .before .before .before .if2 .taken) (c .length-after .ensures); leaves = rw (c .before .before .before .before .before .before .if2 .taken) (c .before .before .before .put .ensures) }
+returns-2 c = record { answers = roomy _ _ _ _ _ _ (c .before .before .before .before .before .before .before .if1 .left) (c .before .before .before .before .before .before .write-answer .ensures); lengthens = rw (c .before .before .before .before .before .if2 .taken) (c .length-after .ensures); leaves = rw (c .before .before .before .before .before .if2 .taken) (c .before .before .before .put .ensures) }
 
 returns-3 : tie.Need-returns-3
 returns-3 c =
@@ -51,7 +48,6 @@ write-spec =
     (tie.spec
     returns
     write-answer-requires
-    cast-put
     put-requires
     cast-length-after
     length-after-requires

@@ -15,7 +15,10 @@ returns c = rw (ne-eqb (c .before .args .code) tableCode (c .if1 .taken))
 
 returns-2 : tie.Need-returns-2
 unfolding writeAnswer
-returns-2 c = let a = c .before .before .args in rw (eq-eqb (a .code) tableCode (omega arith), lt-leb (a .at) (a .old) (omega arith))
+returns-2 c = let a = c .before .before .before .args in rw (eq-eqb (a .code) tableCode (omega arith), lt-leb (a .at .0) (a .old) (omega arith))
+
+cast-if3 : tie.Need-cast-if3
+cast-if3 c = search needs
 
 add-if3 : tie.Need-add-if3
 add-if3 c = search needs
@@ -23,14 +26,14 @@ add-if3 c = search needs
 returns-3 : tie.Need-returns-3
 unfolding writeAnswer
 returns-3 c =
-    let a = c .before .before .before .args in
-    rw (eq-eqb (a .code) tableCode (omega arith), le-leb (a .at) (a .old) (omega arith), lt-leb (a .at + a .n) tableRoom (omega arith))
+    let a = c .before .before .before .before .before .args in
+    rw (eq-eqb (a .code) tableCode (omega arith), le-leb (a .at .0) (a .old) (omega arith), lt-leb (a .at .0 + a .n) tableRoom (omega arith))
 
 returns-4 : tie.Need-returns-4
 unfolding writeAnswer
 returns-4 c =
-    let a = c .before .before .before .args in
-    rw (eq-eqb (a .code) tableCode (omega arith), le-leb (a .at) (a .old) (omega arith), le-leb (a .at + a .n) tableRoom (omega arith))
+    let a = c .before .before .before .before .before .args in
+    rw (eq-eqb (a .code) tableCode (omega arith), le-leb (a .at .0) (a .old) (omega arith), le-leb (a .at .0 + a .n) tableRoom (omega arith))
 
 pub write-answer-spec : {M : Type 1} → statement M
-write-answer-spec = tie.close (tie.spec returns returns-2 add-if3 returns-3 returns-4)
+write-answer-spec = tie.close (tie.spec returns returns-2 cast-if3 add-if3 returns-3 returns-4)

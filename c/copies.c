@@ -2,19 +2,22 @@
  *
  *     cc -O2 -Iinclude -Wl,--wrap=memcpy,--wrap=memmove c/copies.c target/staticlib/libddcci_display.a -o copies && ./copies
  *
- * The linker sends every call of memcpy and memmove here, those of the library and those of this program alike. This program copies the display too, to pass it by value and to keep what comes back: so each step is
- * made by one call through a pointer, once of the library's function and once of one with the same parameters that copies nothing, and what is written is the difference. Copies of a few dozen bytes, which the
- * compiler makes by moves of its own, are not seen. */
+ * The linker sends every call of memcpy and memmove here, those of the library and those of this program
+ * alike. This program copies the display too, to pass it by value and to keep what comes back: so each step
+ * is made by one call through a pointer, once of the library's function and once of one with the same
+ * parameters that copies nothing, and what is written is the difference. Copies of a few dozen bytes, which
+ * the compiler makes by moves of its own, are not seen. */
 #include <stdio.h>
 #include <string.h>
 
 #include "ddcci_display.h"
 
-typedef ddcci_display_stepped stepping(ddcci_display, const uint8_t *, size_t, uint8_t *, size_t, const uint8_t *, size_t, uint8_t *, size_t);
+typedef ddcci_display_stepped stepping(ddcci_display, const uint8_t *, size_t, uint8_t *, size_t,
+                                       const uint8_t *, size_t, uint8_t *, size_t);
 
 static const uint8_t text[] = "(vcp(10 F4))";
 static uint8_t table[DDCCI_DISPLAY_TABLE_ROOM];
-static uint8_t out[DDCCI_DISPLAY_OUTPUT_ROOM];
+static uint8_t out[DDCCI_OUTPUT_ROOM];
 static size_t copied;
 
 void *__real_memcpy(void *to, const void *from, size_t n);
@@ -30,16 +33,20 @@ void *__wrap_memmove(void *to, const void *from, size_t n) {
     return __real_memmove(to, from, n);
 }
 
-static ddcci_display_stepped nothing(ddcci_display display, const uint8_t *t, size_t tn, uint8_t *b, size_t bn, const uint8_t *m, size_t mn, uint8_t *o, size_t on) {
+static ddcci_display_stepped nothing(ddcci_display display, const uint8_t *t, size_t tn, uint8_t *b, size_t bn,
+                                     const uint8_t *m, size_t mn, uint8_t *o, size_t on) {
     ddcci_display_stepped stepped;
-    stepped.answer = (uint8_t)(display.size + (t == b) + (m == o) + tn + bn + mn + on);
+    stepped.answer = (uint8_t)(display.fragment_size + (t == b) + (m == o) + tn + bn + mn + on);
     return stepped;
 }
 
 /* The one place that calls a step. */
-static __attribute__((noinline)) size_t copied_by(stepping *volatile step, const ddcci_display *display, ddcci_display_stepped *after, const uint8_t *message, size_t length) {
+static __attribute__((noinline)) size_t copied_by(stepping *volatile step, const ddcci_display *display,
+                                                  ddcci_display_stepped *after, const uint8_t *message,
+                                                  size_t length) {
     copied = 0;
-    *after = step(*display, text, strlen((const char *)text), table, sizeof table, message, length, out, sizeof out);
+    *after = step(*display, text, strlen((const char *)text), table, sizeof table, message, length, out,
+                  sizeof out);
     return copied;
 }
 
@@ -53,7 +60,7 @@ static ddcci_display write_copies(const char *what, ddcci_display display, const
 
 int main(void) {
     const ddcci_display_timing timing = {2, 13340, 6000};
-    const ddcci_display_declaration brightness = {0x10, true, true, 0, true, 100, 50};
+    const ddcci_display_declaration brightness = {0x10, 1, 1, 0, 1, 100, 50};
     ddcci_display display = ddcci_display_start(timing, text, strlen((const char *)text), 5).display;
     display = ddcci_display_declare(display, brightness).display;
 

@@ -1,8 +1,8 @@
-/* Counts the bytes that a whole program copies, for LD_PRELOAD:
+/* Counts the bytes that a whole program copies, for LD_PRELOAD: `cargo bench --bench controller` runs
+ * display_pipe so.
  *
- *     cc -O2 -shared -fPIC c/counted.c -o counted.so && LD_PRELOAD=./counted.so target/bin/display_pipe < records > answers
- *
- * memcpy and memmove stand here in place of the C library's. At its end the program writes to standard error how many bytes were given to them. Copies of a few dozen bytes, which the compiler makes by moves of its
+ * memcpy and memmove stand here in place of the C library's. At its end the program writes to standard error
+ * how many bytes were given to them. Copies of a few dozen bytes, which the compiler makes by moves of its
  * own, are not seen. */
 #include <stddef.h>
 #include <stdint.h>

@@ -1,4 +1,5 @@
-/* What a C program does with Paneknoll: build a request, read a reply, read a capabilities string, run a transfer.
+/* What a C program does with Paneknoll: build a request, read a reply, read a capabilities string, run a
+ * transfer.
  *
  *     cc -Iinclude c/example.c target/staticlib/libddcci.a -o example && ./example
  */
@@ -26,42 +27,65 @@ static void messages(void) {
     printf("answer %u: code %02X is %u of %u\n", reply.answer, reply.code, reply.second, reply.first);
 
     ddcci_request_read cut = ddcci_read_request(out, set.length - 1);
-    printf("cut by a byte: answer %u\n", cut.answer);
+    printf("cut by a byte: answer %u, %s\n", cut.answer, ddcci_answer_text(cut.answer));
 }
 
+/* The words of a capabilities string, of which there may be none. */
 static void capabilities(const char *text) {
-    uint16_t starts[64], lengths[64], parents[64];
-    uint8_t groups[64];
-    ddcci_reading read = ddcci_read_capabilities((const uint8_t *)text, strlen(text), starts, 64, lengths, 64, parents, 64, groups, 64);
-    if (read.answer != 0) {
-        printf("%s: refused %u at %zu\n", text, read.answer, read.position);
+    static uint16_t starts[DDCCI_MOST_NODES], lengths[DDCCI_MOST_NODES], parents[DDCCI_MOST_NODES];
+    static uint8_t groups[DDCCI_MOST_NODES];
+    ddcci_reading read = ddcci_read_capabilities((const uint8_t *)text, strlen(text), starts, DDCCI_MOST_NODES,
+                                                 lengths, DDCCI_MOST_NODES, parents, DDCCI_MOST_NODES, groups,
+                                                 DDCCI_MOST_NODES);
+    if (read.answer != DDCCI_ANSWER_DONE) {
+        printf("%s: refused %u at %zu, %s\n", text, read.answer, read.position, ddcci_answer_text(read.answer));
         return;
     }
-    printf("%s: %zu nodes, the last is %.*s\n", text, read.nodes, lengths[read.nodes - 1], text + starts[read.nodes - 1]);
+    printf("%s: %zu nodes", text, read.nodes);
+    for (size_t i = 0; i < read.nodes; i++) {
+        printf(" %.*s", lengths[i], text + starts[i]);
+    }
+    printf("\n");
 }
 
-/* A text of 12 bytes in fragments of 5, one of which comes twice. */
-static void transfer(void) {
-    const uint8_t text[] = "(vcp(10 12))";
-    uint8_t buffer[32] = {0};
-    uint8_t out[DDCCI_OUTPUT_ROOM];
-    ddcci_transfer t = ddcci_begin(DDCCI_CAPABILITIES, buffer, sizeof buffer, 100);
-    while (DDCCI_STATE(t) == DDCCI_RUNNING) {
-        size_t at = t.offset;
-        size_t n = 12 - at < 5 ? 12 - at : 5;
-        ddcci_built reply = ddcci_build_text_fragment((uint16_t)at, text + at, n, out, sizeof out);
-        t = ddcci_receive(t, buffer, sizeof buffer, out, reply.length);
-        if (at == 0) {
-            t = ddcci_receive(t, buffer, sizeof buffer, out, reply.length);
-            printf("the same fragment again: answer %u\n", t.answer);
-        }
+/* Sends a request and returns how many bytes came back: your I2C. Here the display is played, with a text of
+ * 12 bytes in fragments of 5; every third reply is lost. */
+static size_t exchange(const uint8_t *request, size_t length, uint8_t *reply) {
+    static const uint8_t text[] = "(vcp(10 12))";
+    static unsigned exchanges;
+    ddcci_request_read asked = ddcci_read_request(request, length);
+    size_t at = asked.word;
+    exchanges++;
+    if (asked.command != DDCCI_COMMAND_TEXT || at > 12 || exchanges % 3 == 0) {
+        return 0;
     }
-    printf("state %u after %u exchanges: %.*s\n", DDCCI_STATE(t), t.count, (int)t.offset, (const char *)buffer);
+    size_t count = 12 - at < 5 ? 12 - at : 5;
+    return ddcci_build_text_fragment((uint16_t)at, text + at, count, reply, DDCCI_OUTPUT_ROOM).length;
+}
+
+static void transfer(void) {
+    /* README begins */
+    static uint8_t buffer[4096];
+    uint8_t out[DDCCI_OUTPUT_ROOM], reply[DDCCI_LONGEST_MESSAGE];
+    ddcci_transfer t = ddcci_begin(DDCCI_CAPABILITIES, buffer, sizeof buffer, 1000);
+    while (DDCCI_STATE(t) == DDCCI_RUNNING) {
+        ddcci_built request = ddcci_request(t, out, sizeof out);
+        size_t came = exchange(out, request.length, reply);       /* your I2C; 0 if nothing came */
+        t = ddcci_receive(t, buffer, sizeof buffer, reply, came); /* a refusal only counts: ask again */
+    }
+    if (DDCCI_STATE(t) == DDCCI_DONE) { /* only then the text is whole */
+        printf("%.*s\n", (int)t.offset, (const char *)buffer);
+    } else {
+        printf("no text; the last answer: %s\n", ddcci_answer_text(t.answer));
+    }
+    /* README ends */
+    printf("in %u exchanges\n", t.count);
 }
 
 int main(void) {
     messages();
     capabilities("(vcp(10 14(05 08)))");
+    capabilities("()");
     capabilities("(a(b)(c))");
     transfer();
     return 0;

@@ -116,10 +116,10 @@ impl Display {
             )
         };
         self.0 = r.display;
-        let sent = r.offset..r.offset + r.count;
-        let found = match r.text {
-            1 => Some((TextKind::Capabilities, sent)),
-            2 => Some((TextKind::Table, sent)),
+        let bytes = r.offset..r.offset + r.count;
+        let found = match r.sent {
+            1 => Some((TextKind::Capabilities, bytes)),
+            2 => Some((TextKind::Table, bytes)),
             _ => None,
         };
         Step { answer: Refusal::check(r.answer), length: r.length, found }

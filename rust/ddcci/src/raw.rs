@@ -1,7 +1,7 @@
 //! The exported functions, as `include/ddcci.h` and `include/ddcci_display.h` declare them.
 //!
 //! Nothing checks these declarations against the Rattle source: they are believed, and so they are few and plain.
-//! A test compares their sizes with those that the headers hold.
+//! Their sizes are those that the headers hold; both refuse to compile with others.
 //!
 //! # Safety
 //! Every function may be called with any numbers. A pointer and the length behind it must be those of one slice that may
@@ -187,7 +187,8 @@ pub struct DisplayStepped {
     pub length: usize,
     pub offset: usize,
     pub count: usize,
-    pub text: u8,
+    /// The text that a fragment was sent of: 0 none, else 1 more than its number.
+    pub sent: u8,
 }
 
 #[repr(C)]
@@ -220,3 +221,23 @@ extern "C" {
     pub fn ddcci_display_write_profile(display: Display, out: *mut u8, out_length: usize) -> Built;
     pub fn ddcci_display_load_profile(display: Display, profile: *const u8, profile_length: usize) -> DisplayLoaded;
 }
+
+const fn has_size<T>(size: usize) {
+    assert!(size_of::<T>() == size);
+}
+
+const _: () = {
+    has_size::<Built>(16);
+    has_size::<Request>(24);
+    has_size::<Reply>(32);
+    has_size::<Reading>(24);
+    has_size::<Transfer>(16);
+    has_size::<Timing>(6);
+    has_size::<Settings>(1704);
+    has_size::<TextState>(6);
+    has_size::<Display>(1720);
+    has_size::<Declaration>(10);
+    has_size::<DisplayChanged>(1728);
+    has_size::<DisplayStepped>(1760);
+    has_size::<DisplayLoaded>(1736);
+};

@@ -42,8 +42,8 @@ refusals! {
     WrongLength = 4, "the length byte is wrong, or the slice does not agree with it";
     /// The checksum is wrong.
     WrongChecksum = 5, "the checksum is wrong: ask again";
-    /// The command is not in the table.
-    UnknownCommand = 6, "the command is not in the table";
+    /// The command, or in C the number of a text, is not in the table.
+    UnknownCommand = 6, "the command or the text's number is not in the table";
     /// The length or a field is wrong for the command.
     WrongField = 7, "the length or a field is wrong for the command";
     /// The code is not allowed.
@@ -66,8 +66,8 @@ refusals! {
     TransferClosed = 16, "the transfer is closed: begin another";
     /// A profile is broken.
     BrokenProfile = 17, "the profile is broken";
-    /// A declaration, fragment size or budget is not allowed.
-    NotDeclarable = 18, "the declaration, fragment size or budget is not allowed";
+    /// A declaration, timing, fragment size or budget is not allowed.
+    NotDeclarable = 18, "the declaration, timing, fragment size or budget is not allowed";
 }
 
 impl Refusal {

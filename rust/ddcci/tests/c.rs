@@ -1,36 +1,111 @@
-//! The C headers: an example program for each is compiled with it, linked with its static library and run.
+//! The C headers: programs are compiled with them by C89, C99, C17 and C++, linked with the static libraries and run.
 mod common;
-use common::written_by;
+use common::{compiled_as, repository, text_of, written_by, C17, C89, C99, CPP};
+use ddcci::Refusal;
+use std::fs;
+use std::os::unix::fs::symlink;
+use std::path::Path;
+use std::process::Command;
 
 const EXAMPLE_WRITES: &str = "\
 set brightness to 100: 51 84 03 10 00 64 CC
 answer 0: code 10 is 50 of 100
-cut by a byte: answer 4
-(vcp(10 14(05 08))): 5 nodes, the last is 08
-(a(b)(c)): refused 13 at 5
-the same fragment again: answer 10
-state 1 after 5 exchanges: (vcp(10 12))
+cut by a byte: answer 4, the length byte is wrong, or the slice does not agree with it
+(vcp(10 14(05 08))): 5 nodes vcp 10 14 05 08
+(): 0 nodes
+(a(b)(c)): refused 13 at 5, the capabilities string does not follow the grammar
+(vcp(10 12))
+in 5 exchanges
 ";
 
 const DISPLAY_WRITES: &str = "\
 again: answer 18
-get: answer 0, reply 6E 88 02 00 10 00 00 64 00 32 F2, text 0, 0 bytes from 0
-set to 100: answer 0, reply, text 0, 0 bytes from 0
-get: answer 0, reply 6E 88 02 00 10 00 00 64 00 64 A4, text 0, 0 bytes from 0
-text at 0: answer 0, reply 6E 88 E3 00 00 28 76 63 70 28 30, text 1, 5 bytes from 0
-text at 5: answer 0, reply 6E 88 E3 00 05 31 30 20 46 34 03, text 1, 5 bytes from 5
-save: answer 0, reply, text 0, 0 bytes from 0
+get: answer 0, done; a read gets 6E 88 02 00 10 00 00 64 00 32 F2
+set to 100: answer 0, done; a read gets 6E 80 BE
+  code 10 was set to 100: give it to the panel
+set to 101: answer 9, the value is above the maximum; a read gets 6E 80 BE
+get: answer 0, done; a read gets 6E 88 02 00 10 00 00 64 00 64 A4
+table write: answer 0, done; a read gets 6E 80 BE
+  the list has 1 bytes: show it anew
+text at 0: answer 0, done; a read gets 6E 88 E3 00 00 28 76 63 70 28 30
+  5 bytes from 0 of text 0
+text at 5: answer 0, done; a read gets 6E 88 E3 00 05 31 30 20 46 34 03
+  5 bytes from 5 of text 0
+save: answer 0, done; a read gets 6E 80 BE
+  saved: keep the profile
 profile: answer 0, bytes 05 00 01 00 10 64 00
 loaded with 101: answer 9 at 0
 loaded with 70: answer 0 at 7
 ";
 
+const HOST: &str = "target/staticlib/libddcci.a";
+const DISPLAY: &str = "target/staticlib/libddcci_display.a";
+
+fn c_file(name: &str) -> std::path::PathBuf {
+    repository().join("c").join(name)
+}
+
+/// Runs the command that a C file shows in its first comment, in a folder of its own beside the repository's files.
+fn documented(name: &str) -> String {
+    let source = text_of(&format!("c/{name}.c"));
+    let command = source.lines().find_map(|line| line.strip_prefix(" *     cc ")).expect("a file shows its command");
+    let folder = Path::new(env!("CARGO_TARGET_TMPDIR")).join(format!("documented-{name}"));
+    let _ = fs::remove_dir_all(&folder);
+    fs::create_dir_all(&folder).unwrap();
+    for part in ["c", "include", "target"] {
+        symlink(repository().join(part), folder.join(part)).unwrap();
+    }
+    let output = Command::new("sh").current_dir(&folder).arg("-c").arg(format!("cc {command}")).output().unwrap();
+    assert!(output.status.success() && output.stderr.is_empty(), "{}", String::from_utf8_lossy(&output.stderr));
+    String::from_utf8(output.stdout).unwrap()
+}
+
 #[test]
 fn the_example_compiles_and_writes_what_the_papers_say() {
-    assert_eq!(written_by("example", &["target/staticlib/libddcci.a"]), EXAMPLE_WRITES);
+    assert_eq!(documented("example"), EXAMPLE_WRITES);
+    for standard in [C99, C17, CPP] {
+        assert_eq!(written_by(&compiled_as(standard, &c_file("example.c"), &[HOST])), EXAMPLE_WRITES);
+    }
 }
 
 #[test]
 fn the_display_compiles_and_answers_as_the_papers_say() {
-    assert_eq!(written_by("display", &["target/staticlib/libddcci_display.a"]), DISPLAY_WRITES);
+    assert_eq!(documented("display"), DISPLAY_WRITES);
+    for standard in [C99, C17, CPP] {
+        assert_eq!(written_by(&compiled_as(standard, &c_file("display.c"), &[DISPLAY])), DISPLAY_WRITES);
+    }
+}
+
+/// What `c/headers.c` writes behind the meanings of the answer numbers.
+const HEADERS_WRITE: &str = "\
+answer 0: command 01, code 10, value 0; read: 0, 01, 10, 0
+answer 0: command 03, code 10, value 70; read: 0, 03, 10, 70
+answer 0: command 03, code 01, value 1; read: 0, 03, 01, 1
+answer 9: command 00, code 00, value 0; read: 0, 03, 10, 101
+answer 0: command 07, code 00, value 0; read: 0, 07, 00, 0
+answer 0: command 0C, code 00, value 0; read: 0, 0C, 00, 0
+answer 0: command F3, code 00, value 0; read: 0, F3, 00, 0
+answer 0: command E7, code F4, value 0; read: 0, E7, F4, 0
+answer 0: command E2, code F4, value 0; read: 0, E2, F4, 0
+answer 2: command 00, code 00, value 0; read: 2, 00, 00, 0
+brightness 70, list 3 bytes
+39 bytes: answer 4; cut to 38: answer 0
+null message: answer 12
+";
+
+/// The headers' version is this crate's, and their answer numbers mean what those of this crate do.
+#[test]
+fn the_headers_are_c89_c17_and_cpp() {
+    let version = env!("CARGO_PKG_VERSION");
+    let mut wanted = format!("version {version}, {version}\n0 done\n");
+    for number in 1..=255 {
+        let meaning = Refusal::from_number(number)
+            .map_or("unknown answer".into(), |refusal| refusal.to_string().replace(&format!("refused {number}: "), ""));
+        wanted.push_str(&format!("{number} {meaning}\n"));
+    }
+    wanted.push_str(HEADERS_WRITE);
+    assert_eq!(documented("headers"), wanted);
+    for standard in [C89, C17, CPP] {
+        assert_eq!(written_by(&compiled_as(standard, &c_file("headers.c"), &[HOST, DISPLAY])), wanted);
+    }
 }

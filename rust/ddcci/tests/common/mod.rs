@@ -21,26 +21,44 @@ pub fn example(name: &str) -> PathBuf {
     path
 }
 
-/// A C file of the repository, `c/NAME.c`, compiled with the headers and what else is named: another file of the repository, or an option.
-pub fn compiled(name: &str, more: &[&str]) -> PathBuf {
-    let root = Path::new(env!("CARGO_MANIFEST_DIR")).join("../..");
-    let made = Path::new(env!("CARGO_TARGET_TMPDIR")).join(name);
-    let status = Command::new("cc")
-        .current_dir(&root)
-        .args(["-std=c11", "-Wall", "-Wextra", "-Werror", "-O2", "-Iinclude"])
-        .arg(format!("c/{name}.c"))
+/// The repository's folder.
+pub fn repository() -> PathBuf {
+    Path::new(env!("CARGO_MANIFEST_DIR")).join("../..")
+}
+
+/// A file of the repository, as text.
+pub fn text_of(path: &str) -> String {
+    std::fs::read_to_string(repository().join(path)).unwrap_or_else(|why| panic!("{path}: {why}"))
+}
+
+/// The C standards that programs are compiled by, with the compiler of each.
+pub const C99: &[&str] = &["cc", "-std=c99"];
+pub const C89: &[&str] = &["cc", "-std=c89"];
+pub const C17: &[&str] = &["cc", "-std=c17"];
+pub const CPP: &[&str] = &["c++", "-std=c++17", "-x", "c++"];
+
+/// A C file compiled by a standard, with the headers and what else is named: another file of the repository, or an option.
+pub fn compiled_as(standard: &[&str], source: &Path, more: &[&str]) -> PathBuf {
+    let name = source.file_stem().expect("a file has a name").to_string_lossy();
+    let made = Path::new(env!("CARGO_TARGET_TMPDIR")).join(format!("{name}{}", standard[1]));
+    let status = Command::new(standard[0])
+        .current_dir(repository())
+        .args(["-pedantic", "-Wall", "-Wextra", "-Werror", "-O2", "-Iinclude"])
+        .args(&standard[1..])
+        .arg(source)
+        .args(["-x", "none"])
         .args(more)
         .arg("-o")
         .arg(&made)
         .status()
-        .expect("a C compiler, `cc`, is installed");
-    assert!(status.success());
+        .unwrap_or_else(|why| panic!("a compiler, `{}`, is to be installed: {why}", standard[0]));
+    assert!(status.success(), "{name} compiles by {standard:?}");
     made
 }
 
-/// What a C program writes, compiled in that way.
-pub fn written_by(name: &str, more: &[&str]) -> String {
-    let output = Command::new(compiled(name, more)).output().expect("the program runs");
+/// What a program writes to standard output.
+pub fn written_by(program: &Path) -> String {
+    let output = Command::new(program).output().expect("the program runs");
     assert!(output.status.success());
     String::from_utf8(output.stdout).expect("it writes text")
 }

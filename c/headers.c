@@ -1,0 +1,67 @@
+/* Both headers in one file that is C89, C17 and C++ alike: the meaning of every answer number, the version,
+ * what an accepted message asked for, and that data in its own output are not what a builder promises for.
+ *
+ *     cc -Iinclude c/headers.c target/staticlib/libddcci.a target/staticlib/libddcci_display.a -o headers && ./headers
+ */
+#include <stdio.h>
+#include <string.h>
+
+#include "ddcci.h"
+#include "ddcci_display.h"
+
+static const uint8_t text[] = "(vcp(10 F4))";
+static uint8_t table[DDCCI_DISPLAY_TABLE_ROOM];
+
+/* Writes what a message came to, and beside it how the host's library reads the same message. */
+static ddcci_display show(ddcci_display display, const uint8_t *message, size_t length) {
+    uint8_t out[DDCCI_OUTPUT_ROOM];
+    ddcci_display_stepped step = ddcci_display_step(display, text, sizeof text - 1, table, sizeof table,
+                                                    message, length, out, sizeof out);
+    ddcci_display_request asked = ddcci_display_asked(step.answer, message);
+    ddcci_request_read read = ddcci_read_request(message, length);
+    printf("answer %u: command %02X, code %02X, value %u; ", step.answer, asked.command, asked.code, asked.value);
+    printf("read: %u, %02X, %02X, %u\n", read.answer, read.command, read.code, read.word);
+    return step.display;
+}
+
+static void show_messages(void) {
+    static const ddcci_display_timing timing = {2, 13340, 6000};
+    static const ddcci_display_declaration brightness = {0x10, 1, 1, 0, 1, 100, 50};
+    static const ddcci_display_declaration degauss = {0x01, 0, 1, 1, 0, 1, 0};
+    uint8_t out[DDCCI_OUTPUT_ROOM];
+    ddcci_display display = ddcci_display_start(timing, text, sizeof text - 1, 32).display;
+    display = ddcci_display_declare(display, brightness).display;
+    display = ddcci_display_declare(display, degauss).display;
+    display = show(display, out, ddcci_build_get(0x10, out, sizeof out).length);
+    display = show(display, out, ddcci_build_set(0x10, 70, out, sizeof out).length);
+    display = show(display, out, ddcci_build_set(0x01, 1, out, sizeof out).length);
+    display = show(display, out, ddcci_build_set(0x10, 101, out, sizeof out).length);
+    display = show(display, out, ddcci_build_timing(out, sizeof out).length);
+    display = show(display, out, ddcci_build_save(out, sizeof out).length);
+    display = show(display, out, ddcci_build_text(0, out, sizeof out).length);
+    display = show(display, out, ddcci_build_table_write(DDCCI_TABLE_CODE, 0, text, 3, out, sizeof out).length);
+    display = show(display, out, ddcci_build_table_read(DDCCI_TABLE_CODE, 0, out, sizeof out).length);
+    display = show(display, out, 0);
+    printf("brightness %u, list %u bytes\n", display.settings.present[0x10], display.table.length);
+}
+
+/* A message of 39 bytes whose first 38 are a right one: with a byte more room than the longest it is refused. */
+static void show_cut(void) {
+    static const uint8_t data[DDCCI_MOST_WRITTEN] = {0};
+    uint8_t message[DDCCI_DISPLAY_MESSAGE_ROOM];
+    message[DDCCI_LONGEST_MESSAGE] = 0;
+    ddcci_build_table_write(DDCCI_TABLE_CODE, 0, data, sizeof data, message, sizeof message);
+    printf("39 bytes: answer %u; ", ddcci_read_request(message, sizeof message).answer);
+    printf("cut to 38: answer %u\n", ddcci_read_request(message, DDCCI_LONGEST_MESSAGE).answer);
+}
+
+int main(void) {
+    static const uint8_t null_message[] = DDCCI_DISPLAY_NULL_MESSAGE;
+    int answer;
+    printf("version %s, %d.%d.%d\n", DDCCI_VERSION, DDCCI_VERSION_MAJOR, DDCCI_VERSION_MINOR, DDCCI_VERSION_PATCH);
+    for (answer = 0; answer < 256; answer++) printf("%d %s\n", answer, ddcci_answer_text(answer));
+    show_messages();
+    show_cut();
+    printf("null message: answer %u\n", ddcci_read_reply(null_message, sizeof null_message).answer);
+    return 0;
+}

@@ -2,5 +2,5 @@ pub mod Fields
 pub mod Parts
 pub mod Readings
 pub mod Rows
-pub mod Judged
+pub mod Verdicts
 pub mod Starts

@@ -108,3 +108,17 @@ pub reply-read : {c k : ReplyKind} (s : List ℕ) {r : ReplyRead} → 0 < bodyLe
     → c ≡ k → r ≡ replyAt k s → ReplyMeans s r (bodyIn replies (kind.Reply c) s)
 reply-read {c} {k} s some room h e q =
     means-of (body-placed (kind.Reply c) s some room h replies) (means-as (q ∙ ap (λ (x : ReplyKind). replyAt x s) (sym e)) (reply-placed c s room h))
+
+-- a Value and a Timing reply by the fields as they were taken
+module _ (s : List ℕ) where
+  pub value-read : {r c t m p : ℕ} → r ≡ getD s 3 0 → c ≡ getD s 4 0 → t ≡ getD s 5 0 → m ≡ word s 6 → p ≡ word s 8 → ltb r 2 && ltb t 2 ≡ true → reply.Value r c t m p ≡ replyAt Value s
+  value-read d e f g h q = rw (← d, ← e, ← f, ← g, ← h, q)
+
+  pub value-wrong : {r t : ℕ} → r ≡ getD s 3 0 → t ≡ getD s 5 0 → ltb r 2 && ltb t 2 ≡ false → reply.Refused 7 ≡ replyAt Value s
+  value-wrong d f q = rw (← d, ← f, q)
+
+  pub timing-read : {st h v : ℕ} → st ≡ getD s 3 0 → h ≡ word s 4 → v ≡ word s 6 → eqb (st / 4 % 16) 0 ≡ true → reply.Timing st h v ≡ replyAt TimingReply s
+  timing-read d g h q = rw (← d, ← g, ← h, q)
+
+  pub timing-wrong : {st : ℕ} → st ≡ getD s 3 0 → eqb (st / 4 % 16) 0 ≡ false → reply.Refused 7 ≡ replyAt TimingReply s
+  timing-wrong d q = rw (← d, q)

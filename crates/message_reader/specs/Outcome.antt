@@ -14,10 +14,10 @@ use Rattle.message_reader.specs.declared.RequestRead.{RequestRead}
 use Rattle.message_reader.specs.declared.RequestRead.the-variants as requestRead
 use Rattle.message_reader.specs.declared.ReplyRead.{ReplyRead}
 use Rattle.message_reader.specs.declared.ReplyRead.the-variants as replyRead
-use Rattle.message_reader.specs.declared.table.RequestJudged.{RequestJudged}
-use Rattle.message_reader.specs.declared.table.RequestJudged.the-variants as requestJudged
-use Rattle.message_reader.specs.declared.table.ReplyJudged.{ReplyJudged}
-use Rattle.message_reader.specs.declared.table.ReplyJudged.the-variants as replyJudged
+use Rattle.message_reader.specs.declared.table.RequestVerdict.{RequestVerdict}
+use Rattle.message_reader.specs.declared.table.RequestVerdict.the-variants as requestVerdict
+use Rattle.message_reader.specs.declared.table.ReplyVerdict.{ReplyVerdict}
+use Rattle.message_reader.specs.declared.table.ReplyVerdict.the-variants as replyVerdict
 use Rattle.message_reader.specs.Parts.{bodyIn}
 
 -- the n bytes from a position of the slice on
@@ -82,11 +82,11 @@ ReplyMeans = Meaning replyIn ReplyInside
 abbrev pub Readable : row.Kind → List ℕ → Type 0
 Readable c s = (1 < length s) × (bodyLength s + 3 ≤ length s) × (0 < bodyLength s) × (least (layoutOf c) ≤ bodyLength s - 1)
 
--- the tests of a message, but those of its fields, refuse it, or leave a body of a known kind to be read
-abbrev pub RequestJudges : Address → List ℕ → RequestJudged → Type 0
-RequestJudges a s (requestJudged.Known c) = Readable (row.Request c) s × (decode requests a s ≡ bodyIn requests (row.Request c) s)
-RequestJudges a s (requestJudged.Refused k) = decode requests a s ≡ refused k
+-- what the verdict of the tests, but those of the fields, says of a message: it is refused, or a body of a known kind is left to be read
+abbrev pub RequestHolds : Address → List ℕ → RequestVerdict → Type 0
+RequestHolds a s (requestVerdict.Known c) = Readable (row.Request c) s × (decode requests a s ≡ bodyIn requests (row.Request c) s)
+RequestHolds a s (requestVerdict.Refused k) = decode requests a s ≡ refused k
 
-abbrev pub ReplyJudges : Address → List ℕ → ReplyJudged → Type 0
-ReplyJudges a s (replyJudged.Known c) = Readable (row.Reply c) s × (decode replies a s ≡ bodyIn replies (row.Reply c) s)
-ReplyJudges a s (replyJudged.Refused k) = decode replies a s ≡ refused k
+abbrev pub ReplyHolds : Address → List ℕ → ReplyVerdict → Type 0
+ReplyHolds a s (replyVerdict.Known c) = Readable (row.Reply c) s × (decode replies a s ≡ bodyIn replies (row.Reply c) s)
+ReplyHolds a s (replyVerdict.Refused k) = decode replies a s ≡ refused k

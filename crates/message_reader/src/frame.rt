@@ -1,7 +1,7 @@
 // The frame of a message: first byte, length byte and checksum, for either direction and any pair of address bytes.
 ghost use mathlib.Core.Path.{_≡_};
 ghost use Prim.Native.Nat.{_+_, _≤_, _<_};
-ghost use lib.ListN.{length};
+ghost use lib.ListN.{length, getD};
 ghost use Rattle.message_rules.specs.Body.{word};
 ghost use Rattle.message_rules.specs.Frame.{bodyLength, bodyOf, fits, lengthByte, plain, frameAnswer};
 ghost use Rattle.message_rules.specs.Layout.{longest};
@@ -9,10 +9,18 @@ ghost use Rattle.message_reader.specs.Parts.{headAnswer, tailAnswer};
 use crate::table;
 use message_rules::Address;
 use message_rules::Direction;
+use message_rules::Position;
 use message_rules::answer;
 use message_rules::limits;
 
-pub(crate) fn wide(x: u8) -> usize
+// The positions of a frame: its first byte, its length byte, and the command number that a body starts with.
+const FIRST_BYTE: Position = Position(0);
+
+const LENGTH_BYTE: Position = Position(1);
+
+pub(crate) const COMMAND: Position = Position(2);
+
+fn wide(x: u8) -> usize
     ensures { λ r. ⌜ (r ≡ x) × (r < 256) ⌝ }
 {
     x as usize
@@ -24,22 +32,33 @@ fn wide16(x: u8) -> u16
     x as u16
 }
 
-// The 16-bit word at a position, the high byte first.
-pub(crate) fn word_at(s: &[u8], at: usize) -> u16
-    requires { ⌜ at + 1 < length (now s) ⌝ }
-    ensures { λ r. ⌜ r ≡ word (now (s .entry)) at ⌝ }
+// Returns the byte at a position.
+pub(crate) fn byte_at(s: &[u8], at: Position) -> u8
+    requires { ⌜ at .0 < length (now s) ⌝ }
+    ensures { λ r. ⌜ r ≡ getD (now (s .entry)) (at .0) 0 ⌝ }
 {
-    wide16(s[at]) * 256 + wide16(s[at + 1])
+    let i = at.0;
+    s[i]
 }
 
-// The length of the body by the length byte, in either form.
+// Returns the 16-bit word at a position, the high byte first.
+pub(crate) fn word_at(s: &[u8], at: Position) -> u16
+    requires { ⌜ at .0 + 1 < length (now s) ⌝ }
+    ensures { λ r. ⌜ r ≡ word (now (s .entry)) (at .0) ⌝ }
+{
+    let i = at.0;
+    wide16(s[i]) * 256 + wide16(s[i + 1])
+}
+
+// Returns the length of the body by the length byte, in either form.
 pub(crate) fn body_length(s: &[u8]) -> usize
     requires { ⌜ 1 < length (now s) ⌝ }
     ensures { λ r. ⌜ (r ≡ bodyLength (now (s .entry))) × (r < 128) ⌝ }
 {
-    wide(s[1]) % 128
+    wide(byte_at(s, LENGTH_BYTE)) % 128
 }
 
+// Returns the length byte of a body of n bytes, in either form.
 fn length_byte(plain: bool, n: usize) -> usize
     requires { ⌜ n < 128 ⌝ }
     ensures { λ r. ⌜ r ≡ lengthByte plain n ⌝ }
@@ -47,6 +66,7 @@ fn length_byte(plain: bool, n: usize) -> usize
     if plain { n } else { 128 + n }
 }
 
+// Returns the most bytes of a body.
 fn longest_body(direction: Direction) -> usize
     ensures { λ r. ⌜ r ≡ longest direction ⌝ }
 {
@@ -56,7 +76,7 @@ fn longest_body(direction: Direction) -> usize
     }
 }
 
-// A request is the whole slice; behind a reply anything may follow.
+// Returns whether a message of n bytes agrees with its slice: a request is the whole of it, behind a reply anything may follow.
 fn fits_slice(direction: Direction, n: usize, len: usize) -> bool
     ensures { λ r. ⌜ r ≡ fits direction n len ⌝ }
 {
@@ -66,7 +86,8 @@ fn fits_slice(direction: Direction, n: usize, len: usize) -> bool
     }
 }
 
-// The tests before the command number is looked at: 2, 3, and 4 for a slice that does not agree with its length byte. 0 if none fails.
+// Returns the answer of the tests before the command number is looked at: 2, 3, and 4 for a slice that does not agree with its length byte.
+// 0 if none fails.
 fn head_answer(direction: Direction, a: Address, s: &[u8]) -> u8
     ensures { λ r. ⌜ r ≡ headAnswer direction a (now (s .entry)) ⌝ }
 {
@@ -74,7 +95,7 @@ fn head_answer(direction: Direction, a: Address, s: &[u8]) -> u8
         return answer::TOO_SHORT;
     }
     let first = a.first;
-    if s[0] != first {
+    if byte_at(s, FIRST_BYTE) != first {
         return answer::WRONG_FIRST_BYTE;
     }
     let n = body_length(s);
@@ -88,40 +109,37 @@ fn head_answer(direction: Direction, a: Address, s: &[u8]) -> u8
     answer::WRONG_LENGTH
 }
 
-// The tests of the frame that are left: 4 for the other form of length byte, then 5. 0 if none fails. The last byte is compared with the
-// checksum of those in front of it: a sum that is only compared with 0 is not taken several bytes at a time in the compiled code.
+// Returns the answer of the frame's tests that are left: 4 for the other form of length byte, then 5. 0 if none fails.
+// The last byte is compared with the checksum of those in front of it.
+// A sum that is only compared with 0 is not taken several bytes at a time in the compiled code.
 fn tail_answer(a: Address, plain: bool, s: &[u8]) -> u8
     requires { ⌜ (1 < length (now s)) × (bodyLength (now s) + 3 ≤ length (now s)) ⌝ }
     ensures { λ r. ⌜ r ≡ tailAnswer a plain (now (s .entry)) ⌝ }
 {
     let n = body_length(s);
-    if wide(s[1]) != length_byte(plain, n) {
+    if wide(byte_at(s, LENGTH_BYTE)) != length_byte(plain, n) {
         return answer::WRONG_LENGTH;
     }
     let seed = a.seed;
-    if checksum::checksum(seed, &s[0..n + 2]) != s[n + 2] {
+    if checksum::checksum(seed, &s[0..n + 2]) != byte_at(s, Position(n + 2)) {
         return answer::WRONG_CHECKSUM;
     }
     answer::DONE
 }
 
-// Whether the length byte is to be plain, by the body's first byte. An empty body has none, which is asked only where it matters.
-fn is_plain(direction: Direction, s: &[u8]) -> bool
+// Returns whether the length byte is to be plain, by the row of the body's first byte.
+// An empty body has none, which is asked only where it matters.
+fn body_plain(direction: Direction, s: &[u8]) -> bool
     requires { ⌜ (2 < length (now s)) × (bodyLength (now s) + 3 ≤ length (now s)) ⌝ }
     ensures { λ r. ⌜ r ≡ plain direction (bodyOf (now (s .entry))) ⌝ }
 {
-    match direction {
-        Direction::Request => false,
-        Direction::Reply => {
-            if table::is_plain(s[2]) {
-                return 0 < body_length(s);
-            }
-            false
-        }
+    if table::form_of(direction, byte_at(s, COMMAND)) {
+        return 0 < body_length(s);
     }
+    false
 }
 
-// The tests of a frame in the papers' order: 2, 3, 4, 5. 0 if none fails.
+// Returns the answer of a frame's tests in the papers' order: 2, 3, 4, 5. 0 if none fails.
 pub(crate) fn frame_answer(direction: Direction, a: Address, s: &[u8]) -> u8
     ensures { λ r. ⌜ r ≡ frameAnswer direction a (now (s .entry)) ⌝ }
 {
@@ -129,5 +147,5 @@ pub(crate) fn frame_answer(direction: Direction, a: Address, s: &[u8]) -> u8
     if head != answer::DONE {
         return head;
     }
-    tail_answer(a, is_plain(direction, s), s)
+    tail_answer(a, body_plain(direction, s), s)
 }

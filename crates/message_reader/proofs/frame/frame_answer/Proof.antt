@@ -18,8 +18,8 @@ returns c =
     let e = c .before .head-answer .ensures in
     e ∙ sym (frame-head (a .direction) (a .a) (a .s .now) (λ z. c .if1 .taken (e ∙ z)))
 
-is-plain-requires : tie.Need-is-plain-requires
-is-plain-requires c κs =
+body-plain-requires : tie.Need-body-plain-requires
+body-plain-requires c κs =
     let a = c .before .before .before .args in
     let h = headed (a .direction) (a .a) (a .s .now) (sym (c .before .head-answer .ensures) ∙ c .if1 .left) in
     (omega (arith, h .long), h .inside)
@@ -34,10 +34,10 @@ returns-2 : tie.Need-returns-2
 returns-2 c =
     let a = c .before .before .before .before .before .args in
     c .tail-answer .ensures
-    ∙ ap (λ (p : Bool). tailAnswer (a .a) p (a .s .now)) (c .before .is-plain .ensures)
+    ∙ ap (λ (p : Bool). tailAnswer (a .a) p (a .s .now)) (c .before .body-plain .ensures)
     ∙ sym (frame-tail (a .direction) (a .a) (a .s .now) (sym (c .before .before .before .head-answer .ensures) ∙ c .before .before .if1 .left))
 
 pub frame-answer-spec : {M : Type 1} → statement M
 frame-answer-spec =
     tie.close
-    (tie.spec head-answer-requires returns is-plain-requires tail-answer-requires returns-2)
+    (tie.spec head-answer-requires returns body-plain-requires tail-answer-requires returns-2)

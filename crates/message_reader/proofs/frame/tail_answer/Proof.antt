@@ -14,8 +14,8 @@ use Rattle.message_reader.proofs.frame.tail_answer.Tie as tie
 body-length-requires : tie.Need-body-length-requires
 body-length-requires c κs = search needs
 
-shared-slice-read-wide : tie.Need-shared-slice-read-wide
-shared-slice-read-wide c = search needs
+byte-at-requires : tie.Need-byte-at-requires
+byte-at-requires c κs = search needs
 
 wide-requires : tie.Need-wide-requires
 wide-requires c κs = search needs
@@ -27,7 +27,7 @@ returns : tie.Need-returns
 returns c =
     let a = c .before .before .before .before .before .before .args in
     let n = c .before .before .before .before .body-length .ensures .0 in
-    sym (tail-form (a .a) (a .plain) (a .s .now) (λ e. c .if1 .taken (c .before .before .wide .ensures .0 ∙ e ∙ ap (lengthByte (a .plain)) (sym n) ∙ sym (c .before .length-byte .ensures))))
+    sym (tail-form (a .a) (a .plain) (a .s .now) (λ e. c .if1 .taken (c .before .before .wide .ensures .0 ∙ c .before .before .before .byte-at .ensures ∙ e ∙ ap (lengthByte (a .plain)) (sym n) ∙ sym (c .before .length-byte .ensures))))
 
 add-checksum : tie.Need-add-checksum
 add-checksum c = search needs
@@ -44,19 +44,19 @@ part-checksum-end c = search needs
 checksum-requires : tie.Need-checksum-requires
 checksum-requires c κs = search needs
 
-add-if2 : tie.Need-add-if2
-add-if2 c = search needs
+add-t15 : tie.Need-add-t15
+add-t15 c = search needs
 
-shared-slice-read-if2 : tie.Need-shared-slice-read-if2
-shared-slice-read-if2 c = search needs
+byte-at-requires-2 : tie.Need-byte-at-requires-2
+byte-at-requires-2 c κs = search needs
 
 returns-2 : tie.Need-returns-2
 returns-2 c =
     let a = c .before .before .before .before .before .before .before .before .before .before .args in
     let n = c .before .before .before .before .before .before .before .before .body-length in
     let sum = c .before .before .checksum in
-    let form = sym (c .before .before .before .before .before .before .wide .ensures .0) ∙ c .before .before .before .before .if1 .left ∙ c .before .before .before .before .before .length-byte .ensures ∙ ap (lengthByte (a .plain)) (n .ensures .0) in
-    let wrong = sum-wrong (a .a .seed) (sum .result) (n .result) (a .s .now) (c .before .before .before .before .before .before .before .before .before .before .pre .1) (n .ensures .0) (sum .ensures) (c .if2 .taken) in
+    let form = sym (c .before .before .before .before .before .before .wide .ensures .0 ∙ c .before .before .before .before .before .before .before .byte-at .ensures) ∙ c .before .before .before .before .if1 .left ∙ c .before .before .before .before .before .length-byte .ensures ∙ ap (lengthByte (a .plain)) (n .ensures .0) in
+    let wrong = sum-wrong (a .a .seed) (sum .result) (n .result) (a .s .now) (c .before .before .before .before .before .before .before .before .before .before .pre .1) (n .ensures .0) (sum .ensures) (λ e. c .if2 .taken (e ∙ sym (c .before .byte-at2 .ensures))) in
     sym (tail-sum (a .a) (a .plain) (a .s .now) form ∙ rw (ne-eqb (xorAll (a .a .seed) (take (bodyLength (a .s .now) + 3) (a .s .now))) 0 wrong))
 
 returns-3 : tie.Need-returns-3
@@ -64,8 +64,8 @@ returns-3 c =
     let a = c .before .before .before .before .before .before .before .before .before .before .args in
     let n = c .before .before .before .before .before .before .before .before .body-length in
     let sum = c .before .before .checksum in
-    let form = sym (c .before .before .before .before .before .before .wide .ensures .0) ∙ c .before .before .before .before .if1 .left ∙ c .before .before .before .before .before .length-byte .ensures ∙ ap (lengthByte (a .plain)) (n .ensures .0) in
-    let right = sum-right (a .a .seed) (sum .result) (n .result) (a .s .now) (c .before .before .before .before .before .before .before .before .before .before .pre .1) (n .ensures .0) (sum .ensures) (c .if2 .left) in
+    let form = sym (c .before .before .before .before .before .before .wide .ensures .0 ∙ c .before .before .before .before .before .before .before .byte-at .ensures) ∙ c .before .before .before .before .if1 .left ∙ c .before .before .before .before .before .length-byte .ensures ∙ ap (lengthByte (a .plain)) (n .ensures .0) in
+    let right = sum-right (a .a .seed) (sum .result) (n .result) (a .s .now) (c .before .before .before .before .before .before .before .before .before .before .pre .1) (n .ensures .0) (sum .ensures) (c .if2 .left ∙ c .before .byte-at2 .ensures) in
     sym (tail-sum (a .a) (a .plain) (a .s .now) form ∙ rw (eq-eqb (xorAll (a .a .seed) (take (bodyLength (a .s .now) + 3) (a .s .now))) 0 right))
 
 pub tail-answer-spec : {M : Type 1} → statement M
@@ -73,7 +73,7 @@ tail-answer-spec =
     tie.close
     (tie.spec
     body-length-requires
-    shared-slice-read-wide
+    byte-at-requires
     wide-requires
     length-byte-requires
     returns
@@ -82,7 +82,7 @@ tail-answer-spec =
     part-checksum-start
     part-checksum-end
     checksum-requires
-    add-if2
-    shared-slice-read-if2
+    add-t15
+    byte-at-requires-2
     returns-2
     returns-3)

@@ -2,7 +2,7 @@
 -- Assumes nothing.
 use mathlib.Core.Path.{sym, _∙_}
 use native.Mathlib.Omega.{arith}
-use Rattle.message_reader.proofs.Readings.{least-reply, reply-read}
+use Rattle.message_reader.proofs.Readings.{least-reply, value-read, value-wrong, timing-read, timing-wrong, reply-read}
 use borrow.Author.Needs.{needs}
 use Rattle.message_reader.proofs.reply.fields.Statement.{statement}
 use Rattle.message_reader.proofs.reply.fields.Tie as tie
@@ -10,59 +10,50 @@ use Rattle.message_reader.proofs.reply.fields.Tie as tie
 enum-told : tie.Need-enum-told
 enum-told c = search needs
 
+byte-at-requires : tie.Need-byte-at-requires
+byte-at-requires c κs = search needs
+
+byte-at-requires-2 : tie.Need-byte-at-requires-2
+byte-at-requires-2 c κs = omega (arith, least-reply (c .before .enum-told .given .1) (c .before .before .before .before .pre .3))
+
+byte-at-requires-3 : tie.Need-byte-at-requires-3
+byte-at-requires-3 c κs = omega (arith, least-reply (c .before .before .enum-told .given .1) (c .before .before .before .before .before .pre .3))
+
 word-at-requires : tie.Need-word-at-requires
-word-at-requires c κs = omega (arith, least-reply (c .enum-told .given .1) (c .before .before .before .pre .3))
+word-at-requires c κs = omega (arith, least-reply (c .before .before .before .enum-told .given .1) (c .before .before .before .before .before .before .pre .3))
 
 word-at-requires-2 : tie.Need-word-at-requires-2
-word-at-requires-2 c κs = omega (arith, least-reply (c .before .enum-told .given .1) (c .before .before .before .before .pre .3))
-
-shared-slice-read-value-allowed : tie.Need-shared-slice-read-value-allowed
-shared-slice-read-value-allowed c = search needs
-
-shared-slice-read-value-allowed-2 : tie.Need-shared-slice-read-value-allowed-2
-shared-slice-read-value-allowed-2 c = omega (arith, least-reply (c .before .before .before .before .enum-told .given .1) (c .before .before .before .before .before .before .before .pre .3))
+word-at-requires-2 c κs = omega (arith, least-reply (c .before .before .before .before .enum-told .given .1) (c .before .before .before .before .before .before .before .pre .3))
 
 value-allowed-requires : tie.Need-value-allowed-requires
 value-allowed-requires c κs = search needs
 
-shared-slice-read-t18 : tie.Need-shared-slice-read-t18
-shared-slice-read-t18 c = search needs
-
-shared-slice-read-t20 : tie.Need-shared-slice-read-t20
-shared-slice-read-t20 c = omega (arith, least-reply (c .before .before .before .before .before .before .before .before .enum-told .given .1) (c .before .before .before .before .before .before .before .before .before .before .before .pre .3))
-
-shared-slice-read-t22 : tie.Need-shared-slice-read-t22
-shared-slice-read-t22 c = omega (arith, least-reply (c .before .before .before .before .before .before .before .before .before .enum-told .given .1) (c .before .before .before .before .before .before .before .before .before .before .before .before .pre .3))
-
 returns : tie.Need-returns
 returns c =
-    let a = c .before .before .before .before .before .before .before .before .before .before .before .before .args in
-    let p = c .before .before .before .before .before .before .before .before .before .before .before .before .pre in
-    reply-read (a .s .now) (p .2) (p .1) (p .3) (c .before .before .before .before .before .before .before .before .before .enum-told .given .1) (rw (sym (c .before .before .before .before .value-allowed .ensures) ∙ c .before .before .before .if1 .taken, c .before .before .before .before .before .before .before .before .word-at .ensures, c .before .before .before .before .before .before .before .word-at2 .ensures))
+    let a = c .before .before .before .before .before .before .before .before .before .before .args in
+    let p = c .before .before .before .before .before .before .before .before .before .before .pre in
+    reply-read (a .s .now) (p .2) (p .1) (p .3) (c .before .before .before .before .before .before .before .enum-told .given .1) (value-read (a .s .now) (c .before .before .before .before .before .before .byte-at .ensures) (c .before .before .before .before .before .byte-at2 .ensures) (c .before .before .before .before .byte-at3 .ensures) (c .before .before .before .word-at .ensures) (c .before .before .word-at2 .ensures) (sym (c .before .value-allowed .ensures) ∙ c .if1 .taken))
 
 enum-told-2 : tie.Need-enum-told-2
 enum-told-2 c = search needs
 
+byte-at-requires-4 : tie.Need-byte-at-requires-4
+byte-at-requires-4 c κs = search needs
+
 word-at-requires-3 : tie.Need-word-at-requires-3
-word-at-requires-3 c κs = omega (arith, least-reply (c .enum-told2 .given .1) (c .before .before .before .pre .3))
+word-at-requires-3 c κs = omega (arith, least-reply (c .before .enum-told2 .given .1) (c .before .before .before .before .pre .3))
 
 word-at-requires-4 : tie.Need-word-at-requires-4
-word-at-requires-4 c κs = omega (arith, least-reply (c .before .enum-told2 .given .1) (c .before .before .before .before .pre .3))
-
-shared-slice-read-status-allowed : tie.Need-shared-slice-read-status-allowed
-shared-slice-read-status-allowed c = search needs
+word-at-requires-4 c κs = omega (arith, least-reply (c .before .before .enum-told2 .given .1) (c .before .before .before .before .before .pre .3))
 
 status-allowed-requires : tie.Need-status-allowed-requires
 status-allowed-requires c κs = search needs
 
-shared-slice-read-t27 : tie.Need-shared-slice-read-t27
-shared-slice-read-t27 c = search needs
-
 returns-2 : tie.Need-returns-2
 returns-2 c =
-    let a = c .before .before .before .before .before .before .before .before .before .args in
-    let p = c .before .before .before .before .before .before .before .before .before .pre in
-    reply-read (a .s .now) (p .2) (p .1) (p .3) (c .before .before .before .before .before .before .enum-told2 .given .1) (rw (sym (c .before .before .status-allowed .ensures) ∙ c .before .if2 .taken, c .before .before .before .before .before .word-at3 .ensures, c .before .before .before .before .word-at4 .ensures))
+    let a = c .before .before .before .before .before .before .before .before .args in
+    let p = c .before .before .before .before .before .before .before .before .pre in
+    reply-read (a .s .now) (p .2) (p .1) (p .3) (c .before .before .before .before .before .enum-told2 .given .1) (timing-read (a .s .now) (c .before .before .before .before .byte-at4 .ensures) (c .before .before .before .word-at3 .ensures) (c .before .before .word-at4 .ensures) (sym (c .before .status-allowed .ensures) ∙ c .if2 .taken))
 
 enum-told-3 : tie.Need-enum-told-3
 enum-told-3 c = search needs
@@ -90,15 +81,15 @@ sub-len-2 c = omega (arith, least-reply (c .before .before .enum-told4 .given .1
 
 returns-3 : tie.Need-returns-3
 returns-3 c =
-    let a = c .before .before .before .before .before .before .before .before .before .args in
-    let p = c .before .before .before .before .before .before .before .before .before .pre in
-    reply-read (a .s .now) (p .2) (p .1) (p .3) (c .before .before .before .before .before .before .enum-told .given .1) (rw (sym (c .before .value-allowed .ensures) ∙ c .if1 .left))
+    let a = c .before .before .before .before .before .before .before .before .before .before .args in
+    let p = c .before .before .before .before .before .before .before .before .before .before .pre in
+    reply-read (a .s .now) (p .2) (p .1) (p .3) (c .before .before .before .before .before .before .before .enum-told .given .1) (value-wrong (a .s .now) (c .before .before .before .before .before .before .byte-at .ensures) (c .before .before .before .before .byte-at3 .ensures) (sym (c .before .value-allowed .ensures) ∙ c .if1 .left))
 
 returns-4 : tie.Need-returns-4
 returns-4 c =
     let a = c .before .before .before .before .before .before .before .before .args in
     let p = c .before .before .before .before .before .before .before .before .pre in
-    reply-read (a .s .now) (p .2) (p .1) (p .3) (c .before .before .before .before .before .enum-told2 .given .1) (rw (sym (c .before .status-allowed .ensures) ∙ c .if2 .left))
+    reply-read (a .s .now) (p .2) (p .1) (p .3) (c .before .before .before .before .before .enum-told2 .given .1) (timing-wrong (a .s .now) (c .before .before .before .before .byte-at4 .ensures) (sym (c .before .status-allowed .ensures) ∙ c .if2 .left))
 
 returns-5 : tie.Need-returns-5
 returns-5 c =
@@ -117,21 +108,18 @@ fields-spec =
     tie.close
     (tie.spec
     enum-told
+    byte-at-requires
+    byte-at-requires-2
+    byte-at-requires-3
     word-at-requires
     word-at-requires-2
-    shared-slice-read-value-allowed
-    shared-slice-read-value-allowed-2
     value-allowed-requires
-    shared-slice-read-t18
-    shared-slice-read-t20
-    shared-slice-read-t22
     returns
     enum-told-2
+    byte-at-requires-4
     word-at-requires-3
     word-at-requires-4
-    shared-slice-read-status-allowed
     status-allowed-requires
-    shared-slice-read-t27
     returns-2
     enum-told-3
     word-at-requires-5

@@ -12,14 +12,14 @@ is-null-requires c κs = search needs
 returns : tie.Need-returns
 returns c = record { means = sym (null-answer (c .before .before .before .args .s .now) (sym (c .before .is-null .ensures) ∙ c .if1 .taken)); inside = tt }
 
-judge-requires : tie.Need-judge-requires
-judge-requires c κs = search needs
+tested-requires : tie.Need-tested-requires
+tested-requires c κs = search needs
 
-judged-reply-requires : tie.Need-judged-reply-requires
-judged-reply-requires c κs = c .judge .ensures
+read-tested-requires : tie.Need-read-tested-requires
+read-tested-requires c κs = c .tested .ensures
 
 returns-2 : tie.Need-returns-2
-returns-2 c = c .judged-reply .ensures
+returns-2 c = c .read-tested .ensures
 
 pub read-display-reply-spec : {M : Type 1} → statement M
 read-display-reply-spec =
@@ -27,6 +27,6 @@ read-display-reply-spec =
     (tie.spec
     is-null-requires
     returns
-    judge-requires
-    judged-reply-requires
+    tested-requires
+    read-tested-requires
     returns-2)

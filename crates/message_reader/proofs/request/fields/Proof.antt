@@ -10,14 +10,14 @@ use Rattle.message_reader.proofs.request.fields.Tie as tie
 enum-told : tie.Need-enum-told
 enum-told c = search needs
 
-shared-slice-read-t8 : tie.Need-shared-slice-read-t8
-shared-slice-read-t8 c = search needs
+byte-at-requires : tie.Need-byte-at-requires
+byte-at-requires c κs = search needs
 
 enum-told-2 : tie.Need-enum-told-2
 enum-told-2 c = search needs
 
-shared-slice-read-t10 : tie.Need-shared-slice-read-t10
-shared-slice-read-t10 c = search needs
+byte-at-requires-2 : tie.Need-byte-at-requires-2
+byte-at-requires-2 c κs = search needs
 
 word-at-requires : tie.Need-word-at-requires
 word-at-requires c κs = omega (arith, least-request (c .before .enum-told2 .given .1) (c .before .before .before .before .pre .3))
@@ -40,8 +40,8 @@ enum-told-6 c = search needs
 word-at-requires-3 : tie.Need-word-at-requires-3
 word-at-requires-3 c κs = omega (arith, least-request (c .enum-told6 .given .1) (c .before .before .before .pre .3))
 
-shared-slice-read-t16 : tie.Need-shared-slice-read-t16
-shared-slice-read-t16 c = search needs
+byte-at-requires-3 : tie.Need-byte-at-requires-3
+byte-at-requires-3 c κs = search needs
 
 enum-told-7 : tie.Need-enum-told-7
 enum-told-7 c = search needs
@@ -55,20 +55,20 @@ body-length-requires c κs = search needs
 sub-len : tie.Need-sub-len
 sub-len c = omega (arith, least-request (c .before .before .enum-told7 .given .1) (c .before .before .before .before .before .pre .3), c .body-length .ensures .0)
 
-shared-slice-read-t20 : tie.Need-shared-slice-read-t20
-shared-slice-read-t20 c = search needs
+byte-at-requires-4 : tie.Need-byte-at-requires-4
+byte-at-requires-4 c κs = search needs
 
 returns : tie.Need-returns
 returns c =
     let a = c .before .before .before .before .args in
     let p = c .before .before .before .before .pre in
-    request-read (a .s .now) (p .2) (p .1) (p .3) (c .before .enum-told .given .1) refl
+    request-read (a .s .now) (p .2) (p .1) (p .3) (c .before .enum-told .given .1) (rw (c .byte-at .ensures))
 
 returns-2 : tie.Need-returns-2
 returns-2 c =
     let a = c .before .before .before .before .before .args in
     let p = c .before .before .before .before .before .pre in
-    request-read (a .s .now) (p .2) (p .1) (p .3) (c .before .before .enum-told2 .given .1) (rw (c .word-at .ensures))
+    request-read (a .s .now) (p .2) (p .1) (p .3) (c .before .before .enum-told2 .given .1) (rw (c .before .byte-at2 .ensures, c .word-at .ensures))
 
 returns-3 : tie.Need-returns-3
 returns-3 c =
@@ -92,22 +92,22 @@ returns-6 : tie.Need-returns-6
 returns-6 c =
     let a = c .before .before .before .before .before .args in
     let p = c .before .before .before .before .before .pre in
-    request-read (a .s .now) (p .2) (p .1) (p .3) (c .before .before .enum-told6 .given .1) (rw (c .before .word-at3 .ensures))
+    request-read (a .s .now) (p .2) (p .1) (p .3) (c .before .before .enum-told6 .given .1) (rw (c .byte-at3 .ensures, c .before .word-at3 .ensures))
 
 returns-7 : tie.Need-returns-7
 returns-7 c =
     let a = c .before .before .before .before .before .before .args in
     let p = c .before .before .before .before .before .before .pre in
-    request-read (a .s .now) (p .2) (p .1) (p .3) (c .before .before .before .enum-told7 .given .1) (rw (c .before .before .word-at4 .ensures, c .before .body-length .ensures .0))
+    request-read (a .s .now) (p .2) (p .1) (p .3) (c .before .before .before .enum-told7 .given .1) (rw (c .byte-at4 .ensures, c .before .before .word-at4 .ensures, c .before .body-length .ensures .0))
 
 pub fields-spec : {M : Type 1} → statement M
 fields-spec =
     tie.close
     (tie.spec
     enum-told
-    shared-slice-read-t8
+    byte-at-requires
     enum-told-2
-    shared-slice-read-t10
+    byte-at-requires-2
     word-at-requires
     enum-told-3
     enum-told-4
@@ -115,12 +115,12 @@ fields-spec =
     word-at-requires-2
     enum-told-6
     word-at-requires-3
-    shared-slice-read-t16
+    byte-at-requires-3
     enum-told-7
     word-at-requires-4
     body-length-requires
     sub-len
-    shared-slice-read-t20
+    byte-at-requires-4
     returns
     returns-2
     returns-3

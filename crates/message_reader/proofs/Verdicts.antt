@@ -14,13 +14,13 @@ use Rattle.message_rules.specs.declared.ReplyKind.{ReplyKind}
 use Rattle.message_rules.specs.Row.{Kind, Layout, Row, Known, Unknown}
 use Rattle.message_rules.specs.Row as kind
 use Rattle.message_rules.specs.Layout.{layoutOf, rowOf}
-use Rattle.message_rules.specs.Frame.{bodyLength, frameAnswer}
+use Rattle.message_rules.specs.Frame.{plainRow, bodyLength, frameAnswer}
 use Rattle.message_rules.specs.Message.{requests, replies}
 use Rattle.message_rules.proofs.Rows.{found}
-use Rattle.message_reader.specs.declared.table.RequestJudged.the-variants as request
-use Rattle.message_reader.specs.declared.table.ReplyJudged.the-variants as reply
-use Rattle.message_reader.specs.Table.{shapeOf, lengthRight, requestOf, replyOf, requestRow, replyRow}
-use Rattle.message_reader.specs.Outcome.{RequestJudges, ReplyJudges}
+use Rattle.message_reader.specs.declared.table.RequestVerdict.the-variants as request
+use Rattle.message_reader.specs.declared.table.ReplyVerdict.the-variants as reply
+use Rattle.message_reader.specs.Table.{shapeOf, lengthRight, requestRow, replyRow, requestForm, replyForm, requestVerdict, replyVerdict}
+use Rattle.message_reader.specs.Outcome.{RequestHolds, ReplyHolds}
 use Rattle.message_reader.proofs.Parts.{decode-unknown, decode-length, decode-body, readable}
 
 never : {A : Type 0} → way.Request ≡ way.Reply → A
@@ -30,6 +30,23 @@ never e = let z : _≡_ {A = ℕ} 0 1 = cc in absurd (omega arith)
 own : (d : Direction) (k : ℕ) (c : Kind) (l : Layout) → rowOf d k ≡ Known c l → rowOf d k ≡ Known c (layoutOf c)
 own d k c l p = p ∙ ap (Known c) (found d k c l p .layout)
 
+-- the form of the length byte, by either half of the table
+pub request-form : (k : ℕ) → requestForm (requestRow (rowOf way.Request k)) ≡ plainRow (rowOf way.Request k)
+request-form k = go (rowOf way.Request k) refl
+  where
+    go : (r : Row) → rowOf way.Request k ≡ r → requestForm (requestRow r) ≡ plainRow r
+    go (Known (kind.Request c) l) p = refl
+    go (Known (kind.Reply c) l) p = never (found way.Request k (kind.Reply c) l p .way)
+    go Unknown p = refl
+
+pub reply-form : (k : ℕ) → replyForm (replyRow (rowOf way.Reply k)) ≡ plainRow (rowOf way.Reply k)
+reply-form k = go (rowOf way.Reply k) refl
+  where
+    go : (r : Row) → rowOf way.Reply k ≡ r → replyForm (replyRow r) ≡ plainRow r
+    go (Known (kind.Request c) l) p = never (sym (found way.Reply k (kind.Request c) l p .way))
+    go (Known (kind.Reply c) l) p = refl
+    go Unknown p = refl
+
 module _ (a : Address) (s : List ℕ) (some : 0 < bodyLength s) where
   abbrev number : ℕ
   number = getD s 2 0
@@ -37,32 +54,32 @@ module _ (a : Address) (s : List ℕ) (some : 0 < bodyLength s) where
   abbrev behind : ℕ
   behind = bodyLength s - 1
 
-  pub request-judged : frameAnswer way.Request a s ≡ 0 → RequestJudges a s (requestRow (rowOf way.Request number) behind)
-  request-judged e = go (rowOf way.Request number) refl
+  pub request-holds : frameAnswer way.Request a s ≡ 0 → RequestHolds a s (requestVerdict (requestRow (rowOf way.Request number)) behind)
+  request-holds e = go (rowOf way.Request number) refl
     where
       sized : (c : RequestKind) → rowOf way.Request number ≡ Known (kind.Request c) (layoutOf (kind.Request c)) → (b : Bool) → lengthRight (shapeOf (layoutOf (kind.Request c))) behind ≡ b
-          → RequestJudges a s (cond b (request.Known c) (request.Refused 7))
+          → RequestHolds a s (cond b (request.Known c) (request.Refused 7))
       sized c q true w = (readable requests a s e some (kind.Request c) q w, decode-body requests a s e some (kind.Request c) q w)
       sized c q false w = decode-length requests a s e some (kind.Request c) q w
 
-      go : (r : Row) → rowOf way.Request number ≡ r → RequestJudges a s (requestRow r behind)
+      go : (r : Row) → rowOf way.Request number ≡ r → RequestHolds a s (requestVerdict (requestRow r) behind)
       go (Known (kind.Request c) l) p =
-          subst (λ (x : Layout). RequestJudges a s (requestOf c (shapeOf x) behind)) (sym (found way.Request number (kind.Request c) l p .layout))
+          subst (λ (x : Layout). RequestHolds a s (requestVerdict (requestRow (Known (kind.Request c) x)) behind)) (sym (found way.Request number (kind.Request c) l p .layout))
           (sized c (own way.Request number (kind.Request c) l p) (lengthRight (shapeOf (layoutOf (kind.Request c))) behind) refl)
       go (Known (kind.Reply c) l) p = never (found way.Request number (kind.Reply c) l p .way)
       go Unknown p = decode-unknown requests a s e some p
 
-  pub reply-judged : frameAnswer way.Reply a s ≡ 0 → ReplyJudges a s (replyRow (rowOf way.Reply number) behind)
-  reply-judged e = go (rowOf way.Reply number) refl
+  pub reply-holds : frameAnswer way.Reply a s ≡ 0 → ReplyHolds a s (replyVerdict (replyRow (rowOf way.Reply number)) behind)
+  reply-holds e = go (rowOf way.Reply number) refl
     where
       sized : (c : ReplyKind) → rowOf way.Reply number ≡ Known (kind.Reply c) (layoutOf (kind.Reply c)) → (b : Bool) → lengthRight (shapeOf (layoutOf (kind.Reply c))) behind ≡ b
-          → ReplyJudges a s (cond b (reply.Known c) (reply.Refused 7))
+          → ReplyHolds a s (cond b (reply.Known c) (reply.Refused 7))
       sized c q true w = (readable replies a s e some (kind.Reply c) q w, decode-body replies a s e some (kind.Reply c) q w)
       sized c q false w = decode-length replies a s e some (kind.Reply c) q w
 
-      go : (r : Row) → rowOf way.Reply number ≡ r → ReplyJudges a s (replyRow r behind)
+      go : (r : Row) → rowOf way.Reply number ≡ r → ReplyHolds a s (replyVerdict (replyRow r) behind)
       go (Known (kind.Reply c) l) p =
-          subst (λ (x : Layout). ReplyJudges a s (replyOf c (shapeOf x) behind)) (sym (found way.Reply number (kind.Reply c) l p .layout))
+          subst (λ (x : Layout). ReplyHolds a s (replyVerdict (replyRow (Known (kind.Reply c) x)) behind)) (sym (found way.Reply number (kind.Reply c) l p .layout))
           (sized c (own way.Reply number (kind.Reply c) l p) (lengthRight (shapeOf (layoutOf (kind.Reply c))) behind) refl)
       go (Known (kind.Request c) l) p = never (sym (found way.Reply number (kind.Request c) l p .way))
       go Unknown p = decode-unknown replies a s e some p

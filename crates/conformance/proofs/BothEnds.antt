@@ -29,12 +29,13 @@ use Rattle.transfer_rules.specs.Exchange as over
 use Rattle.transfer_rules.specs.Exchange.{Calls, rules, Turn, World, Exchange, cursorAfter, sentBy, Lawful, Course, after}
 use Rattle.transfer_rules.specs.declared.Transfer.{Transfer}
 use Rattle.transfer_rules.specs.Transfer.{isOpen}
+use Rattle.transfer_rules.specs.Demand3.{startOf}
 use Rattle.transfer_rules.proofs.Messages.{request-injective}
 use Rattle.transfer_rules.proofs.Steps.{sent-is}
 use Rattle.transfer_rules.proofs.Kept.{first-le}
 use Rattle.transfer_rules.proofs.Demand3.{demand3}
 use Rattle.conformance.specs.Conformance.{held, Conforms}
-use Rattle.conformance.specs.BothEnds.{DisplayTurn, missed, stepped, Between, ended, answered, corrupted, closed, others, IsCourse, BothEnds, OffsetsFit}
+use Rattle.conformance.specs.BothEnds.{DisplayTurn, missed, stepped, Between, ended, answered, corrupted, closed, others, declares, loads, IsCourse, setupOf, BothEnds, OffsetsFit}
 use Rattle.conformance.proofs.Conformance.{request-is, display-conforms}
 
 -- a request is bytes
@@ -81,6 +82,14 @@ module _ (step : StepRule) (f : Conforms step) (c : Calls) (k : TextKind) (lent 
       let z = f .others k d lent table message out h in
       course text _ _ w es n
       (record { isMade = made.stepped (s .isMade) lent table message out b; cursorIs = s .cursorIs ∙ ap held (sym (z .0)); textIs = z .1 ∙ s .textIs }) x
+  course text d table w es n s (declares y b x) =
+      let z = f .declaring k d y lent table in
+      course text _ _ w es n
+      (record { isMade = made.declared (s .isMade) y b; cursorIs = s .cursorIs ∙ ap held (sym (z .0)); textIs = z .1 ∙ s .textIs }) x
+  course text d table w es n s (loads profile x) =
+      let z = f .loading k d profile lent table in
+      course text _ _ w es n
+      (record { isMade = made.loaded (s .isMade) profile; cursorIs = s .cursorIs ∙ ap held (sym (z .0)); textIs = z .1 ∙ s .textIs }) x
 
 -- the display's text is at most 4,096 bytes
 pub text-small : (k : TextKind) (d : Display) (lent table out : List ℕ) → Made step d → lentWell d (length lent) (length table) (length out) ≡ true →
@@ -95,7 +104,8 @@ is-course c k d lent table w es n m h x =
 
 pub both-ends : BothEnds rules step
 both-ends k d lent table out buffer budget r es n x =
-    demand3 k (whole k d lent table) buffer budget (held (cursorOf k d)) (r .bytes) (text-small k d lent table out (r .isMade) (r .sizes)) (r .fits) (r .allowed) es n
+    demand3 (setupOf k d lent table buffer budget)
+    (record { bytes = r .bytes; small = text-small k d lent table out (r .isMade) (r .sizes); fits = r .fits; allowed = r .allowed }) es n
     (is-course rules k d lent table _ es n (r .isMade) refl x)
 
 -- ---- the offsets of requests
@@ -120,7 +130,7 @@ sent-reached t output k q h = go (isOpen t && leb outputRoom (length output)) (s
 
 pub offsets-fit : OffsetsFit rules step
 offsets-fit k d lent table out buffer budget r es n x e q h =
-    let w : World = over.afterAll rules (over.start rules k buffer budget (held (cursorOf k d))) es in
+    let w : World = over.afterAll rules (startOf rules (setupOf k d lent table buffer budget)) es in
     let c = both-ends k d lent table out buffer budget r es n x .2 in
     omega (
       arith,

@@ -25,7 +25,7 @@ use Rattle.display_rules.proofs.Reading.{reads-follow}
 use Rattle.display_rules.proofs.Tables.{others-keep}
 use Rattle.transfer_rules.specs.Conforming.{offsetSet, SizeAllowed, MovesTo, replyFrom}
 use Rattle.transfer_rules.specs.Fragment.{requestMessage, fragmentMessage}
-use Rattle.conformance.specs.Conformance.{held, Acts, Conforms}
+use Rattle.conformance.specs.Conformance.{held, Acts, load, Conforms}
 
 -- "1 to 32 and at most the bytes left from o, but 0 when none are left": the lesser of the fragment size and what is left is one
 size-allowed : (p left s : ℕ) → 1 ≤ p → p ≤ mostFragment → s ≡ lesser p left → SizeAllowed left s
@@ -77,9 +77,14 @@ unfolding declare
 display-conforms = record {
   acts = λ k d lent table out q m w h. rw (request-is k q) (acts-of k d lent table out q _ (made-is-sound d m) (reads-follow k d lent table out q m w h));
   others = others-keep;
-  declaring = λ k d e lent table. kept k d e lent table;
+  declaring = declared;
+  loading = loaded;
 }
   where
-    kept : (k : TextKind) (d : Display) (e : Declaration) (lent table : List ℕ) → (cursorOf k (declare d e .display) ≡ cursorOf k d) × (whole k (declare d e .display) lent table ≡ whole k d lent table)
-    kept Capabilities d e lent table = (refl, refl)
-    kept Table d e lent table = (refl, refl)
+    declared : (k : TextKind) (d : Display) (e : Declaration) (lent table : List ℕ) → (cursorOf k (declare d e .display) ≡ cursorOf k d) × (whole k (declare d e .display) lent table ≡ whole k d lent table)
+    declared Capabilities d e lent table = (refl, refl)
+    declared Table d e lent table = (refl, refl)
+
+    loaded : (k : TextKind) (d : Display) (profile lent table : List ℕ) → (cursorOf k (load d profile) ≡ cursorOf k d) × (whole k (load d profile) lent table ≡ whole k d lent table)
+    loaded Capabilities d profile lent table = (refl, refl)
+    loaded Table d profile lent table = (refl, refl)

@@ -7,8 +7,7 @@ use mathlib.Core.List.{List, [], _∷_, append-nil}
 use mathlib.Core.Option.{some, none}
 use native.Mathlib.Omega.{arith}
 use lib.ListN.{length, take, drop, length-take}
-use lib.Dec.{eqb}
-use borrow.Author.Tests.{le-leb, eqb-true, eqb-false}
+use borrow.Author.Tests.{le-leb}
 use Rattle.checksum.specs.Bytes as bytes
 use Rattle.checksum.specs.Bytes.{Bytes}
 use Rattle.checksum.proofs.Bytes.{bytes-take, bytes-drop}
@@ -23,18 +22,17 @@ use Rattle.display_rules.specs.Step.{Outcome, lentWell, step, turn}
 use Rattle.display_rules.specs.Statements.{whole, asksFor}
 use Rattle.display_rules.specs.declared.Display.{Display}
 use Rattle.display_rules.proofs.Reading.{valid, read-back}
-use Rattle.transfer_rules.specs.declared.State.the-variants.{Running, Exhausted}
-use Rattle.transfer_rules.specs.Limits.{mostBudget}
 use Rattle.transfer_rules.specs.Fragment.{requestMessage, fragmentFor, fragmentMessage}
 use Rattle.transfer_rules.specs.Transfer.{isOpen}
 use Rattle.transfer_rules.specs.Conforming.{Cursor, replyFrom}
-use Rattle.transfer_rules.specs.Exchange.{rules, Turn, ignores, World, Exchange, Begins, start, sent, after}
-use Rattle.transfer_rules.specs.Demand3.{enough}
+use Rattle.transfer_rules.specs.Exchange.{rules, Turn, ignores, World, Exchange, Begins, sent, after}
+use Rattle.transfer_rules.specs.Demand3.{enough, startOf}
 use Rattle.transfer_rules.proofs.Messages.{fragment-valid}
 use Rattle.transfer_rules.proofs.Steps.{sent-is, Lands}
-use Rattle.transfer_rules.proofs.Kept.{StateKept, Kept, reached-le, reply-read, answered-kept, closed-kept}
+use Rattle.transfer_rules.proofs.Kept.{Kept, reached-le, reply-read, answered-kept, closed-kept}
+use Rattle.transfer_rules.proofs.Demand3.{begun-kept}
 use Rattle.conformance.specs.Conformance.{held}
-use Rattle.conformance.specs.BothEnds.{turnOf, DisplayTurn, missed, stepped, Between, ended, answered, closed}
+use Rattle.conformance.specs.BothEnds.{turnOf, setupOf, DisplayTurn, missed, stepped, Between, ended, answered, closed}
 use Rattle.conformance.specs.Undisturbed.{Undisturbed}
 use Rattle.conformance.proofs.Conformance.{request-is, display-conforms}
 use Rattle.conformance.proofs.BothEnds.{Stands, turn-follows, text-small, both-ends}
@@ -105,23 +103,12 @@ module _ (k : TextKind) (lent out output text buffer : List ℕ) (budget : ℕ) 
   run zero i w d table v s l = ([], refl, ended)
   run (suc m) i w d table v s l = one-more m i (run m (suc i)) w d table v s l
 
-  -- an accepted beginning keeps what is kept
-  begun : (cursor : Cursor) → enough (length text) 0 ≤ budget → budget ≤ mostBudget → Kept k text buffer budget (start rules k buffer budget cursor) 0 0
-  begun cursor least h =
-      rw (le-leb budget mostBudget h)
-      (record { kindIs = refl; sizeIs = refl; budgetIs = refl; reachedIs = refl; first = refl; holds = refl; countIs = refl; stateIs = state (eqb budget 0) refl })
-    where
-      state : (x : Bool) → eqb budget 0 ≡ x → StateKept (length text) budget 0 0 cursor 0 0 (cond x Exhausted Running)
-      state true e = absurd (omega (arith, eqb-true budget 0 e))
-      state false e =
-          (refl, omega (arith, eqb-false budget 0 e), omega arith, record { sized = λ y. absurd (omega (arith, y)); near = λ y _. absurd (omega (arith, y)) })
-
 pub undisturbed : Undisturbed rules step
 undisturbed k d lent table out output buffer budget y room least =
     let text : List ℕ = whole k d lent table in
     let small : length text ≤ longestText = text-small k d lent table out (y .isMade) (y .sizes) in
-    let r = run k lent out output text buffer budget room (y .bytes) small (y .fits) (enough (length text) 0) 0 (start rules k buffer budget (held (cursorOf k d))) d table
-    (begun k lent out output text buffer budget room (y .bytes) small (y .fits) (held (cursorOf k d)) least (y .allowed))
+    let r = run k lent out output text buffer budget room (y .bytes) small (y .fits) (enough (length text) 0) 0 (startOf rules (setupOf k d lent table buffer budget)) d table
+    (begun-kept k text buffer budget (y .bytes) small (y .fits) (held (cursorOf k d)) (y .allowed))
     (record { isMade = y .isMade; cursorIs = refl; textIs = refl }) (y .sizes) in
     let c = both-ends k d lent table out buffer budget y (r .0) 0 (r .2) .2 in
     let e = c .finished 0 (omega arith) (omega (arith, r .1)) least .0 in

@@ -7,19 +7,20 @@ use mathlib.Core.List.{List, [], _∷_}
 use mathlib.Core.Option.{some}
 use lib.ListN.{length, take}
 use Rattle.checksum.specs.Bytes.{Bytes}
-use Rattle.message_rules.specs.Answer.{done}
 use Rattle.message_rules.specs.Message.{requests, decode, toDisplay}
 use Rattle.message_rules.specs.declared.TextKind.{TextKind}
-use Rattle.display_rules.specs.State.{cursorOf}
+use Rattle.codes.specs.Codes.{allCodes}
+use Rattle.settings.specs.declared.Declaration.{Declaration}
+use Rattle.display_rules.specs.State.{cursorOf, declare}
 use Rattle.display_rules.specs.Step.{lentWell, Outcome}
 use Rattle.display_rules.specs.Statements.{StepRule, Made, whole, touches}
 use Rattle.display_rules.specs.declared.Display.{Display}
 use Rattle.transfer_rules.specs.Limits.{mostBudget}
 use Rattle.transfer_rules.specs.Fragment.{requestMessage}
 use Rattle.transfer_rules.specs.Transfer.{isOpen}
-use Rattle.transfer_rules.specs.Exchange.{Calls, Turn, ignores, acts, World, Exchange, Replied, Corrupted, start, sent, after, afterAll, Each, Course}
-use Rattle.transfer_rules.specs.Demand3.{EndClaim, ExchangeClaim}
-use Rattle.conformance.specs.Conformance.{held}
+use Rattle.transfer_rules.specs.Exchange.{Calls, Turn, ignores, acts, World, Exchange, Replied, Corrupted, sent, after, afterAll, Course}
+use Rattle.transfer_rules.specs.Demand3.{Setup, startOf, Claims}
+use Rattle.conformance.specs.Conformance.{held, load}
 
 -- the turn that a step's outcome is: its fragment cursor, and the reply that it left in the output
 abbrev pub turnOf : TextKind → ℕ → Outcome → Turn
@@ -35,7 +36,7 @@ module _ (c : Calls) (step : StepRule) (k : TextKind) (lent : List ℕ) where
         DisplayTurn w e d table (step d lent table (requestMessage k q) out .display) (step d lent table (requestMessage k q) out .table)
 
   -- A list of exchanges between the two ends, of which n are corrupted: as `Course`, but each turn is the display's own. Between exchanges the display may act on
-  -- any message that is neither a request for this text nor a write to it.
+  -- any message that is neither a request for this text nor a write to it, a code may be declared, and a profile loaded.
   pub data Between : Display → (table : List ℕ) → World → List Exchange → ℕ → Type 0 where
     ended : {d : Display} {table : List ℕ} {w : World} → Between d table w [] 0
     answered : {d d′ : Display} {table table′ : List ℕ} {w : World} {e : Exchange} {es : List Exchange} {n : ℕ} → Bytes (e .came) →
@@ -47,6 +48,10 @@ module _ (c : Calls) (step : StepRule) (k : TextKind) (lent : List ℕ) where
     others : {d : Display} {table : List ℕ} {w : World} {es : List Exchange} {n : ℕ} (message out : List ℕ) → Bytes message →
         touches k (decode requests toDisplay message) ≡ false →
         Between (step d lent table message out .display) (step d lent table message out .table) w es n → Between d table w es n
+    declares : {d : Display} {table : List ℕ} {w : World} {es : List Exchange} {n : ℕ} (x : Declaration) → x .code < allCodes →
+        Between (declare d x .display) table w es n → Between d table w es n
+    loads : {d : Display} {table : List ℕ} {w : World} {es : List Exchange} {n : ℕ} (profile : List ℕ) →
+        Between (load d profile) table w es n → Between d table w es n
 
 -- such a list is one with a conforming display, which holds the display's text; the host's calls may be any
 abbrev pub IsCourse : StepRule → Type 0
@@ -62,18 +67,19 @@ pub record Ready (step : StepRule) (k : TextKind) (d : Display) (lent table out 
   pub fits : length (whole k d lent table) ≤ length buffer
   pub allowed : budget ≤ mostBudget
 
+-- what demand 3 supposes of such a transfer: the text is the display's, and so is the cursor
+abbrev pub setupOf : TextKind → Display → (lent table buffer : List ℕ) (budget : ℕ) → Setup
+setupOf k d lent table buffer budget = record { kind = k; text = whole k d lent table; buffer = buffer; budget = budget; cursor = held (cursorOf k d) }
+
 -- the corollary: from there, demand 3's claims hold of every list of exchanges between the two
 abbrev pub BothEnds : Calls → StepRule → Type 0
 BothEnds c step =
-    (k : TextKind) (d : Display) (lent table out buffer : List ℕ) (budget : ℕ) → Ready step k d lent table out buffer budget →
-    (es : List Exchange) (n : ℕ) → Between c step k lent d table (start c k buffer budget (held (cursorOf k d))) es n →
-    ((c .begin k (length buffer) budget) .answer ≡ done)
-    × Each c (ExchangeClaim c k) (start c k buffer budget (held (cursorOf k d))) es
-    × EndClaim (whole k d lent table) buffer budget (afterAll c (start c k buffer budget (held (cursorOf k d))) es) (length es) n
+    (k : TextKind) (d : Display) (lent table out buffer : List ℕ) (budget : ℕ) → Ready step k d lent table out buffer budget → let s = setupOf k d lent table buffer budget in
+    (es : List Exchange) (n : ℕ) → Between c step k lent d table (startOf c s) es n → Claims c s es n
 
 -- after any such list, a request that is sent is for an offset below 65,536: the bound that `stepped` takes is always met
 abbrev pub OffsetsFit : Calls → StepRule → Type 0
 OffsetsFit c step =
-    (k : TextKind) (d : Display) (lent table out buffer : List ℕ) (budget : ℕ) → Ready step k d lent table out buffer budget →
-    (es : List Exchange) (n : ℕ) → Between c step k lent d table (start c k buffer budget (held (cursorOf k d))) es n →
-    (e : Exchange) (q : ℕ) → sent c (afterAll c (start c k buffer budget (held (cursorOf k d))) es) e ≡ some (requestMessage k q) → q < 65536
+    (k : TextKind) (d : Display) (lent table out buffer : List ℕ) (budget : ℕ) → Ready step k d lent table out buffer budget → let s = setupOf k d lent table buffer budget in
+    (es : List Exchange) (n : ℕ) → Between c step k lent d table (startOf c s) es n →
+    (e : Exchange) (q : ℕ) → sent c (afterAll c (startOf c s) es) e ≡ some (requestMessage k q) → q < 65536

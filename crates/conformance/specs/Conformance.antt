@@ -7,7 +7,8 @@ use lib.ListN.{length, take}
 use Rattle.message_rules.specs.Answer.{done}
 use Rattle.message_rules.specs.Message.{requests, decode, toDisplay}
 use Rattle.settings.specs.declared.Declaration.{Declaration}
-use Rattle.display_rules.specs.State.{cursorOf, declare}
+use Rattle.profile_rules.specs.Profile.{loadProfile}
+use Rattle.display_rules.specs.State.{cursorOf, declare, withSettings}
 use Rattle.display_rules.specs.Step.{lentWell, Outcome}
 use Rattle.display_rules.specs.Statements.{StepRule, Made, whole, touches}
 use Rattle.message_rules.specs.declared.TextKind.{TextKind}
@@ -28,7 +29,11 @@ pub record Acts (k : TextKind) (d : Display) (lent table : List ℕ) (q : ℕ) (
   -- the display still holds the same text
   pub keeps : whole k (o .display) lent (o .table) ≡ whole k d lent table
 
--- For each of the two texts: a display that a start, declaring and steps have made acts as the faithful board does, and nothing else than a request for that text,
+-- the display that loading a profile leaves
+abbrev pub load : Display → (profile : List ℕ) → Display
+load d profile = withSettings d (loadProfile (d .settings) profile .settings)
+
+-- For each of the two texts: a display that a start, declaring, steps and loading have made acts as the faithful board does, and nothing else than a request for that text,
 -- or a write to it, moves its cursor or changes it.
 pub record Conforms (step : StepRule) : Type 0 where
   pub acts : (k : TextKind) (d : Display) (lent table out : List ℕ) (q : ℕ)
@@ -39,3 +44,5 @@ pub record Conforms (step : StepRule) : Type 0 where
       × (whole k (step d lent table message out .display) lent (step d lent table message out .table) ≡ whole k d lent table)
   pub declaring : (k : TextKind) (d : Display) (e : Declaration) (lent table : List ℕ)
       → (cursorOf k (declare d e .display) ≡ cursorOf k d) × (whole k (declare d e .display) lent table ≡ whole k d lent table)
+  pub loading : (k : TextKind) (d : Display) (profile lent table : List ℕ)
+      → (cursorOf k (load d profile) ≡ cursorOf k d) × (whole k (load d profile) lent table ≡ whole k d lent table)

@@ -5,14 +5,12 @@ use mathlib.Core.List.{List, _++_}
 use lib.ListN.{length, drop}
 use Rattle.message_rules.specs.Limits.{outputRoom}
 use Rattle.message_rules.specs.declared.TextKind.{TextKind}
-use Rattle.display_rules.specs.State.{cursorOf}
 use Rattle.display_rules.specs.Statements.{StepRule, whole}
 use Rattle.display_rules.specs.declared.Display.{Display}
 use Rattle.transfer_rules.specs.declared.State.the-variants.{Done}
-use Rattle.transfer_rules.specs.Exchange.{Calls, World, Exchange, start, afterAll}
-use Rattle.transfer_rules.specs.Demand3.{enough}
-use Rattle.conformance.specs.Conformance.{held}
-use Rattle.conformance.specs.BothEnds.{Between, Ready}
+use Rattle.transfer_rules.specs.Exchange.{Calls, World, Exchange, afterAll}
+use Rattle.transfer_rules.specs.Demand3.{enough, startOf}
+use Rattle.conformance.specs.BothEnds.{Between, Ready, setupOf}
 
 -- there is a list of L + 1 exchanges between the two ends, none corrupted, after which the transfer is done and its buffer begins with the display's text
 pub record ReadWhole (c : Calls) (step : StepRule) (k : TextKind) (d : Display) (lent table buffer : List ℕ) (w : World) : Type 0 where
@@ -27,4 +25,4 @@ abbrev pub Undisturbed : Calls → StepRule → Type 0
 Undisturbed c step =
     (k : TextKind) (d : Display) (lent table out output buffer : List ℕ) (budget : ℕ) → Ready step k d lent table out buffer budget →
     outputRoom ≤ length output → enough (length (whole k d lent table)) 0 ≤ budget →
-    ReadWhole c step k d lent table buffer (start c k buffer budget (held (cursorOf k d)))
+    ReadWhole c step k d lent table buffer (startOf c (setupOf k d lent table buffer budget))

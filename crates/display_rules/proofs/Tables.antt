@@ -117,6 +117,15 @@ table-write-keeps d lent table c at s = go (eqb (writeAnswer c (d .table .len) a
     go true h = rw h (refl, refl)
     go false h = rw h (refl, refl)
 
+-- of a code other than the table's
+other-read-keeps : (d : Display) (lent table : List ℕ) (c q : ℕ) → eqb c tableCode ≡ false → Keeps Table d lent table (tableReadTurn d lent table c q)
+unfolding tableReadTurn
+other-read-keeps d lent table c q h = rw h (refl, refl)
+
+other-write-keeps : (d : Display) (lent table : List ℕ) (c at : ℕ) (s : List ℕ) → eqb c tableCode ≡ false → Keeps Table d lent table (tableWriteTurn d table c at s)
+unfolding tableWriteTurn writeAnswer
+other-write-keeps d lent table c at s h = rw h (refl, refl)
+
 timing-keeps : (k : TextKind) (d : Display) (lent table : List ℕ) → Keeps k d lent table (timingTurn d table)
 unfolding timingTurn
 timing-keeps k d lent table = go (eqb (reservedBits (d .settings .status)) 0)
@@ -141,9 +150,9 @@ keeps k d lent table true (ok save) h = settings-keep k d lent table 0 0 .1
 keeps Capabilities d lent table true (ok (text q)) h = absurd (true≢false h)
 keeps Table d lent table true (ok (text q)) h = (refl, refl)
 keeps Capabilities d lent table true (ok (tableRead c q)) h = table-read-keeps d lent table c q
-keeps Table d lent table true (ok (tableRead c q)) h = absurd (true≢false h)
+keeps Table d lent table true (ok (tableRead c q)) h = other-read-keeps d lent table c q h
 keeps Capabilities d lent table true (ok (tableWrite c at s)) h = table-write-keeps d lent table c at s
-keeps Table d lent table true (ok (tableWrite c at s)) h = absurd (true≢false h)
+keeps Table d lent table true (ok (tableWrite c at s)) h = other-write-keeps d lent table c at s h
 
 pub others-keep : OthersKeep step
 unfolding step turn

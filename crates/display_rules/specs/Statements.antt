@@ -130,7 +130,7 @@ ReadsFollow step = (k : TextKind) (d : Display) (lent table out : List ℕ) (q :
     → Made step d → lentWell d (length lent) (length table) (length out) ≡ true → q < 65536
     → Reads k d lent table out q (step d lent table (encode requests toDisplay (asksFor k q)) out)
 
--- the messages that move the cursor of a text or change it
+-- the messages that move the cursor of a text or change it; a Table read or write of another code than F4 is 8, and does neither
 abbrev pub touches : TextKind → Read Request → Bool
 touches k (ok (getFeature c)) = false
 touches k (ok (setFeature c v)) = false
@@ -139,9 +139,9 @@ touches k (ok save) = false
 touches Capabilities (ok (text q)) = true
 touches Table (ok (text q)) = false
 touches Capabilities (ok (tableRead c q)) = false
-touches Table (ok (tableRead c q)) = true
+touches Table (ok (tableRead c q)) = eqb c tableCode
 touches Capabilities (ok (tableWrite c at s)) = false
-touches Table (ok (tableWrite c at s)) = true
+touches Table (ok (tableWrite c at s)) = eqb c tableCode
 touches k (refused n) = false
 
 -- all others leave it, and its cursor, alone

@@ -1,8 +1,8 @@
--- Demand 3 for the calls of Transfer.antt, by the invariant `Kept` over the list of exchanges; and which lists its suppositions leave out.
+-- Demand 3 for the calls of Transfer.antt, by the invariant `Kept` over the list of exchanges.
 -- Assumes nothing.
 use Prim.Native.Nat.{ℕ, suc, _+_, _≤_, _<_}
 use mathlib.Core.Path.{_≡_, refl, ap, ap₂, sym, _∙_, subst₂}
-use mathlib.Core.List.{List, [], _∷_, _++_}
+use mathlib.Core.List.{List, _++_}
 use mathlib.Core.Option.{some, none}
 use mathlib.Core.Bool.{Bool, true, false, cond, _&&_, true≢false}
 use native.Mathlib.Omega.{arith}
@@ -18,20 +18,22 @@ use Rattle.transfer_rules.specs.declared.State.{State}
 use Rattle.transfer_rules.specs.declared.State.the-variants.{Running, Done, Exhausted, Overflowed}
 use Rattle.message_rules.specs.Limits.{longestText}
 use Rattle.transfer_rules.specs.Limits.{mostBudget}
-use Rattle.transfer_rules.specs.Fragment.{requestMessage, readReply}
+use Rattle.transfer_rules.specs.Fragment.{requestMessage}
 use Rattle.transfer_rules.specs.Transfer.{isOpen}
 use Rattle.transfer_rules.specs.Conforming.{Cursor}
-use Rattle.transfer_rules.specs.Exchange.{rules, World, Exchange, Replied, Corrupted, ended, answered, corrupted, closed}
+use Rattle.transfer_rules.specs.Exchange.{rules, World, Exchange, countedBy, ended, answered, corrupted, closed}
 use Rattle.transfer_rules.specs.Exchange as over
-use Rattle.transfer_rules.specs.Demand3.{enough, EndClaim, Demand3, Covers}
+use Rattle.transfer_rules.specs.Demand3.{Setup, enough, EndClaim, Demand3}
 use Rattle.transfer_rules.specs.Demand3 as claimed
-use Rattle.transfer_rules.proofs.Messages.{read-fragment, read-valid, read-begins}
 use Rattle.transfer_rules.proofs.Steps.{receive-closed, sent-is}
-use Rattle.transfer_rules.proofs.Kept.{after, Follows, StateKept, Kept, first-le, Judged, wanted, other, reply-read, answered-done, answered-kept, judged, refused-not-done, corrupted-kept, closed-kept}
+use Rattle.transfer_rules.proofs.Kept.{received, after, Follows, StateKept, Kept, first-le, answered-done, answered-counted, answered-kept, refused-not-done, refused-counted, corrupted-kept, closed-kept}
 
 -- the calls of Transfer.antt
 abbrev start : TextKind → List ℕ → ℕ → Cursor → World
 start = over.start rules
+
+abbrev startOf : Setup → World
+startOf = claimed.startOf rules
 
 abbrev afterAll : World → List Exchange → World
 afterAll = over.afterAll rules
@@ -45,17 +47,16 @@ Each = over.Each rules
 abbrev ExchangeClaim : TextKind → World → Exchange → Type 0
 ExchangeClaim = claimed.ExchangeClaim rules
 
-abbrev Genuine : TextKind → List ℕ → World → Exchange → Type 0
-Genuine = claimed.Genuine rules
-
 module _ (k : TextKind) (text buffer : List ℕ) (budget : ℕ) (bytes : Bytes text) (small : length text ≤ longestText) (fits : length text ≤ length buffer) where
   -- ---- the claim of each exchange
-  claim : (w : World) (e : Exchange) (m n : ℕ) → Kept k text buffer budget w m n → Follows k text w e → ExchangeClaim k w e
-  claim w e m n v f =
+  claim : (w : World) (e : Exchange) (m n : ℕ) → Kept k text buffer budget w m n → Follows k text w e →
+      (isOpen (w .transfer) ≡ true → countedBy (received w e .answer) ≡ 1) → ExchangeClaim k w e
+  claim w e m n v f i =
       record {
         requests = sent-is (w .transfer) (e .output)
             ∙ ap₂ (λ (a : TextKind) (b : ℕ). cond (isOpen (w .transfer) && leb outputRoom (length (e .output))) (some (requestMessage a b)) none) (v .kindIs) (v .reachedIs);
         answers = λ o r. answered-done k text buffer budget bytes small fits w e m n v o f r;
+        counts = i;
         refuses = λ s z. refused-not-done k text buffer budget bytes small fits w e m n v f s z;
         stays = λ c. receive-closed (w .transfer) (w .buffer) (e .came) c;
       }
@@ -69,17 +70,18 @@ module _ (k : TextKind) (text buffer : List ℕ) (budget : ℕ) (bytes : Bytes t
   all w es j ended m n v = (tt, renumber w _ _ _ _ (omega arith) (omega arith) v)
   all w es j (answered {e = e} {es = rest} f o r c) m n v =
       let z = all (after w e) rest j c (suc m) n (answered-kept k text buffer budget bytes small fits w e m n v o f r) in
-      ((claim w e m n v f, z .0), renumber _ _ _ _ _ (omega arith) refl (z .1))
+      ((claim w e m n v f (λ _. answered-counted k text buffer budget bytes small fits w e m n v o f r), z .0), renumber _ _ _ _ _ (omega arith) refl (z .1))
   all w es j (corrupted {e = e} {es = rest} {n = i} f s c) m n v =
       let z = all (after w e) rest i c (suc m) (suc n) (corrupted-kept k text buffer budget bytes small fits w e m n v f s) in
-      ((claim w e m n v f, z .0), renumber _ _ _ _ _ (omega arith) (omega arith) (z .1))
+      ((claim w e m n v f (λ _. refused-counted k text buffer budget bytes small fits w e m n v f s), z .0), renumber _ _ _ _ _ (omega arith) (omega arith) (z .1))
   all w es j (closed {e = e} {es = rest} f o c) m n v =
       let z = all (after w e) rest j c (suc m) n (closed-kept k text buffer budget bytes small fits w e m n v o) in
-      ((claim w e m n v f, z .0), renumber _ _ _ _ _ (omega arith) refl (z .1))
+      ((claim w e m n v f (λ h. absurd (true≢false (sym h ∙ o))), z .0), renumber _ _ _ _ _ (omega arith) refl (z .1))
 
   -- ---- the end
-  end : (w : World) (m n : ℕ) → Kept k text buffer budget w m n → EndClaim text buffer budget w m n
-  end w m n v =
+  end : (cursor : Cursor) (w : World) (m n : ℕ) → Kept k text buffer budget w m n →
+      EndClaim (record { kind = k; text = text; buffer = buffer; budget = budget; cursor = cursor }) w m n
+  end cursor w m n v =
       record {
         first = v .first;
         holds = v .holds;
@@ -108,7 +110,7 @@ module _ (k : TextKind) (text buffer : List ℕ) (budget : ℕ) (bytes : Bytes t
       finish l le₀ le₁ le₂ Overflowed q i = absurd i
 
   -- ---- the beginning
-  begun-kept : (cursor : Cursor) → budget ≤ mostBudget → Kept k text buffer budget (start k buffer budget cursor) 0 0
+  pub begun-kept : (cursor : Cursor) → budget ≤ mostBudget → Kept k text buffer budget (start k buffer budget cursor) 0 0
   begun-kept cursor h =
       rw (le-leb budget mostBudget h)
       (record { kindIs = refl; sizeIs = refl; budgetIs = refl; reachedIs = refl; first = refl; holds = refl; countIs = refl; stateIs = state (eqb budget 0) refl })
@@ -119,62 +121,11 @@ module _ (k : TextKind) (text buffer : List ℕ) (budget : ℕ) (bytes : Bytes t
           (refl, omega (arith, eqb-false budget 0 q), omega arith, record { sized = λ z. absurd (omega (arith, z)); near = λ z _. absurd (omega (arith, z)) })
 
 pub demand3 : Demand3 rules
-demand3 k text buffer budget cursor bytes small fits le es n c =
-    let z = all k text buffer budget bytes small fits (start k buffer budget cursor) es n c 0 0 (begun-kept k text buffer budget bytes small fits cursor le) in (
-      rw (le-leb budget mostBudget le),
+demand3 s h es n c =
+    let z = all (s .kind) (s .text) (s .buffer) (s .budget) (h .bytes) (h .small) (h .fits) (startOf s) es n c 0 0
+    (begun-kept (s .kind) (s .text) (s .buffer) (s .budget) (h .bytes) (h .small) (h .fits) (s .cursor) (h .allowed)) in (
+      rw (le-leb (s .budget) mostBudget (h .allowed)),
       z .0,
-      end k text buffer budget bytes small fits _ _ _ (renumber k text buffer budget bytes small fits _ _ _ _ _ (zero-add (length es)) (zero-add n) (z .1)),
+      end (s .kind) (s .text) (s .buffer) (s .budget) (h .bytes) (h .small) (h .fits) (s .cursor) _ _ _
+          (renumber (s .kind) (s .text) (s .buffer) (s .budget) (h .bytes) (h .small) (h .fits) _ _ _ _ _ (zero-add (length es)) (zero-add n) (z .1)),
     )
-
--- ---- which lists are courses
-
-module _ (k : TextKind) (text buffer : List ℕ) (budget : ℕ) (bytes : Bytes text) (small : length text ≤ longestText) (fits : length text ≤ length buffer) where
-  -- one exchange more
-  next : (w : World) (e : Exchange) (es : List Exchange) (m n : ℕ) → Kept k text buffer budget w m n → Genuine k text w e →
-      ((m′ n′ : ℕ) → Kept k text buffer budget (after w e) m′ n′ → (j : ℕ) × Course k text (after w e) es j) → (j : ℕ) × Course k text w (e ∷ es) j
-  next w e es m n v g rest = go (isOpen (w .transfer)) refl
-    where
-      f : Follows k text w e
-      f = g .follows
-
-      replied : isOpen (w .transfer) ≡ true → Replied e → (j : ℕ) × Course k text w (e ∷ es) j
-      replied o r = let z = rest (suc m) n (answered-kept k text buffer budget bytes small fits w e m n v o f r) in (z .0, answered f o r (z .1))
-
-      lost : Corrupted k w e → (j : ℕ) × Course k text w (e ∷ es) j
-      lost s = let z = rest (suc m) (suc n) (corrupted-kept k text buffer budget bytes small fits w e m n v f s) in (suc (z .0), corrupted f s (z .1))
-
-      by-reply : isOpen (w .transfer) ≡ true → Judged k w e → (j : ℕ) × Course k text w (e ∷ es) j
-      by-reply o (wanted d h) =
-          let p : ℕ = w .transfer .reached .0 in
-          replied o (g .own o d (read-valid k p d (e .came) (f .bytes) h) (read-begins k p d (e .came) (f .bytes) h))
-      by-reply o (other r h) =
-          lost
-          (record {
-            running = o;
-            noReply = λ x. h _ (reply-read k text buffer budget bytes small fits w e m n v o (e .turn) (f .lawful) x .1);
-            noFragment = λ d y b. h d (ap readReply (b .1) ∙ read-fragment k (w .transfer .reached .0) d (b .0) y);
-          })
-
-      go : (b : Bool) → isOpen (w .transfer) ≡ b → (j : ℕ) × Course k text w (e ∷ es) j
-      go false o = let z = rest (suc m) n (closed-kept k text buffer budget bytes small fits w e m n v o) in (z .0, closed f o (z .1))
-      go true o = by-reply o (judged k text buffer budget bytes small fits w e m n v)
-
-  from : (w : World) (es : List Exchange) (m n : ℕ) → Kept k text buffer budget w m n → Each (Genuine k text) w es → (j : ℕ) × Course k text w es j
-  from w [] m n v g = (0, ended)
-  from w (e ∷ es) m n v g = next w e es m n v (g .0) (λ m′ n′ v′. from (after w e) es m′ n′ v′ (g .1))
-
-genuine : (k : TextKind) (text : List ℕ) (w : World) (es : List Exchange) (n : ℕ) → Course k text w es n → Each (Genuine k text) w es
-genuine k text w es n ended = tt
-genuine k text w es n (answered {e = e} {es = rest} f o r c) = (record { follows = f; own = λ _ _ _ _. r }, genuine k text (after w e) rest n c)
-genuine k text w es n (corrupted {e = e} {es = rest} {n = i} f s c) =
-    (record { follows = f; own = λ _ d v b. absurd (s .noFragment d v b) }, genuine k text (after w e) rest i c)
-genuine k text w es n (closed {e = e} {es = rest} f o c) =
-    (record { follows = f; own = λ h _ _ _. absurd (true≢false (sym h ∙ o)) }, genuine k text (after w e) rest n c)
-
-pub covers : Covers rules
-covers =
-    record {
-      met = λ k text buffer budget cursor bytes small fits le es g.
-          from k text buffer budget bytes small fits (start k buffer budget cursor) es 0 0 (begun-kept k text buffer budget bytes small fits cursor le) g;
-      only = genuine;
-    }

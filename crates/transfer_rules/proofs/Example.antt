@@ -22,7 +22,7 @@ use Rattle.transfer_rules.specs.declared.State.the-variants.{Done}
 use Rattle.transfer_rules.specs.Fragment.{requestMessage, fragmentFor, fragmentMessage, readReply, fragmentIn, fragmentOf}
 use Rattle.transfer_rules.specs.Conforming.{Cursor}
 use Rattle.transfer_rules.specs.Exchange.{rules, World, Exchange, ignores, acts, Begins, start, after, afterAll, Course, ended, answered, corrupted, closed}
-use Rattle.transfer_rules.specs.Demand3.{Tight}
+use Rattle.transfer_rules.specs.Coverage.{Tight}
 use Rattle.transfer_rules.proofs.Messages.{read-fragment, fragment-in, same-fragment, never-read}
 
 -- ---- bytes that begin with no fragment wanted
@@ -60,13 +60,13 @@ buffer = 1 ∷ 2 ∷ 3 ∷ 4 ∷ 5 ∷ []
 abbrev pub cursor : Cursor
 cursor = record { offset = 7; size = 9 }
 
-abbrev at : ℕ → ℕ → Cursor
+abbrev pub at : ℕ → ℕ → Cursor
 at o s = record { offset = o; size = s }
 
-abbrev first-two : List ℕ
+abbrev pub first-two : List ℕ
 first-two = 0x6E ∷ 0x85 ∷ 0xE3 ∷ 0x00 ∷ 0x00 ∷ 0x28 ∷ 0x61 ∷ 0x11 ∷ []
 
-abbrev the-last : List ℕ
+abbrev pub the-last : List ℕ
 the-last = 0x6E ∷ 0x84 ∷ 0xE3 ∷ 0x00 ∷ 0x02 ∷ 0x29 ∷ 0x72 ∷ []
 
 abbrev the-end : List ℕ
@@ -93,7 +93,7 @@ abbrev damaged : Exchange
 damaged = record { output = replicate 37 0; turn = ignores; came = 0x6E ∷ 0x84 ∷ 0xE3 ∷ 0x00 ∷ 0x02 ∷ 0x29 ∷ 0x73 ∷ [] }
 
 -- the display sends its last fragment again
-abbrev again : Exchange
+abbrev pub again : Exchange
 again = record { output = replicate 38 0; turn = acts 2 (at 2 1) the-last; came = the-last }
 
 -- it sends the empty fragment, with a byte behind it
@@ -199,14 +199,14 @@ table-ends = refl
 
 -- ---- no fewer than L + 1 + k exchanges are enough: the display sends one byte at a time, and the empty fragment is not asked for
 
-abbrev fragment-0 : List ℕ
+abbrev pub fragment-0 : List ℕ
 fragment-0 = 0x6E ∷ 0x84 ∷ 0xE3 ∷ 0x00 ∷ 0x00 ∷ 0x28 ∷ 0x71 ∷ []
 
-abbrev fragment-1 : List ℕ
+abbrev pub fragment-1 : List ℕ
 fragment-1 = 0x6E ∷ 0x84 ∷ 0xE3 ∷ 0x00 ∷ 0x01 ∷ 0x61 ∷ 0x39 ∷ []
 
 -- a fragment of one byte at an offset
-abbrev single : ℕ → List ℕ → Exchange
+abbrev pub single : ℕ → List ℕ → Exchange
 single o message = record { output = replicate 38 0; turn = acts o (at o 1) message; came = message }
 
 abbrev singles : List Exchange
@@ -225,11 +225,8 @@ pub tight : Tight rules
 unfolding after decode bodyRead frameAnswer agrees plain xorAll decodeBody byRow requestMessage fragmentMessage frame
 tight =
     record {
-      kind = Capabilities;
-      text = text;
-      buffer = buffer;
-      budget = 3;
-      cursor = cursor;
+      setup = record { kind = Capabilities; text = text; buffer = buffer; budget = 3; cursor = cursor };
+      supposed = record { bytes = all-bytes _ refl; small = omega arith; fits = omega arith; allowed = omega arith };
       exchanges = singles;
       course =
           answered {w = v₀} {e = single 0 fragment-0} (record { bytes = all-bytes _ refl; lawful = (refl, record { moves = (refl, omega arith); replies = refl }) }) refl ([], refl)

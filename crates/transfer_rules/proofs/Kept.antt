@@ -22,7 +22,7 @@ use Rattle.message_rules.specs.Limits.{longestText}
 use Rattle.transfer_rules.specs.Fragment.{Fragment, fragmentFor, fragmentMessage, readReply, fragmentIn, fragmentOf, dataIn}
 use Rattle.transfer_rules.specs.Transfer.{isOpen, room, ReceiveOutcome, exhaustedAt, counted, stateAfter, put, refuse, judge}
 use Rattle.transfer_rules.specs.Conforming.{Cursor}
-use Rattle.transfer_rules.specs.Exchange.{rules, World, Exchange, Turn, ignores, acts, cursorAfter, advance, RepliedBy, Replied, Corrupted}
+use Rattle.transfer_rules.specs.Exchange.{rules, World, Exchange, Turn, ignores, acts, cursorAfter, countedBy, advance, RepliedBy, Replied, Corrupted}
 use Rattle.transfer_rules.specs.Exchange.{received as received·, after as after·, Lawful as Lawful·, Follows as Follows·}
 use Rattle.transfer_rules.proofs.Messages.{fragment-valid, read-fragment, read-valid, read-begins, fragment-in, data-in, same-fragment, never-read, fragment-of, OwnNumber, read-refuses, not-wanted-own, kind-refuses}
 use Rattle.transfer_rules.proofs.Steps.{open-runs, runs-open, receive-closed, receive-open, judge-fragment, sent-for, CursorNear, Lands, moves-land, lands-near, size-end}
@@ -184,6 +184,9 @@ module _ (k : TextKind) (text buffer : List ℕ) (budget : ℕ) (bytes : Bytes t
       pub answered-done : received w e .answer ≡ 0
       answered-done = ap (λ (x : ReceiveOutcome). x .answer) answered-is
 
+      pub answered-counted : countedBy (received w e .answer) ≡ 1
+      answered-counted = ap (λ (x : ReceiveOutcome). countedBy (x .answer)) answered-is
+
       answered-after : after w e ≡ answered-world
       unfolding after· answered-world b
       answered-after =
@@ -292,6 +295,9 @@ module _ (k : TextKind) (text buffer : List ℕ) (budget : ℕ) (bytes : Bytes t
 
       pub refused-not-done : received w e .answer ≡ 0 → ⊥
       refused-not-done z = eqb-false (refusal .number) 0 (refusal .own .notDone) (sym (ap (λ (x : ReceiveOutcome). x .answer) refused-is) ∙ z)
+
+      pub refused-counted : countedBy (received w e .answer) ≡ 1
+      refused-counted = ap (λ (x : ReceiveOutcome). countedBy (x .answer)) refused-is ∙ rw (refusal .own .notClosed, refusal .own .notSize)
 
       refused-world : World
       refused-world =

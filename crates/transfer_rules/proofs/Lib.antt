@@ -3,5 +3,6 @@ pub mod Steps
 pub mod Coherent
 pub mod Kept
 pub mod Demand3
+pub mod Coverage
 pub mod Example
 pub mod Refuted

@@ -9,82 +9,85 @@ use lib.Dec.{leb}
 use Rattle.checksum.specs.Bytes.{Bytes}
 use Rattle.message_rules.specs.Answer.{done, transferClosed}
 use Rattle.message_rules.specs.Limits.{outputRoom}
-use Rattle.message_rules.specs.Message.{Valid, replies}
 use Rattle.message_rules.specs.declared.TextKind.{TextKind}
-use Rattle.transfer_rules.specs.declared.State.the-variants.{Running, Done, Exhausted}
+use Rattle.transfer_rules.specs.declared.State.the-variants.{Running, Done}
 use Rattle.message_rules.specs.Limits.{longestText}
 use Rattle.transfer_rules.specs.Limits.{mostBudget}
-use Rattle.transfer_rules.specs.Fragment.{requestMessage, fragmentFor, fragmentMessage}
+use Rattle.transfer_rules.specs.Fragment.{requestMessage}
 use Rattle.transfer_rules.specs.Transfer.{isOpen, unchanged}
 use Rattle.transfer_rules.specs.Conforming.{Cursor}
-use Rattle.transfer_rules.specs.Exchange.{Calls, World, Exchange, Begins, Replied, Corrupted, start, sent, received, afterAll, Each, Follows, Course}
+use Rattle.transfer_rules.specs.Exchange.{Calls, World, Exchange, countedBy, Replied, Corrupted, start, sent, received, afterAll, Each, Course}
+
+-- ---- what is supposed before the first exchange
+
+-- the display's text of one kind and its cursor, and the buffer and budget that the host begins with
+pub record Setup : Type 0 where
+  pub kind : TextKind
+  pub text : List ℕ
+  pub buffer : List ℕ
+  pub budget : ℕ
+  pub cursor : Cursor
+
+-- "a text of L bytes that fits the post's room and is at most 4,096", and a budget that is accepted; the cursor is any two numbers
+pub record Supposed (s : Setup) : Type 0 where
+  pub bytes : Bytes (s .text)
+  pub small : length (s .text) ≤ longestText
+  pub fits : length (s .text) ≤ length (s .buffer)
+  pub allowed : s .budget ≤ mostBudget
+
+-- ---- of where the list ends, after m exchanges of which n were corrupted
 
 -- so many exchanges are enough for a text of l bytes if at most k are corrupted: "L + 1 + k"
 abbrev pub enough : ℕ → ℕ → ℕ
 enough l k = l + 1 + k
 
--- ---- of where the list ends, after m exchanges of which n were corrupted
-pub record EndClaim (text buffer : List ℕ) (budget : ℕ) (w : World) (m n : ℕ) : Type 0 where
+pub record EndClaim (s : Setup) (w : World) (m n : ℕ) : Type 0 where
   -- "the bytes accepted so far, which are the text's first ones"
-  pub first : w .accepted ≡ take (length (w .accepted)) text
+  pub first : w .accepted ≡ take (length (w .accepted)) (s .text)
   -- "The buffer begins with" them, "and is otherwise as it was"
-  pub holds : w .buffer ≡ w .accepted ++ drop (length (w .accepted)) buffer
+  pub holds : w .buffer ≡ w .accepted ++ drop (length (w .accepted)) (s .buffer)
   pub reached : w .transfer .reached .0 ≡ length (w .accepted)
   -- the count is the number of the calls counted
   pub count : w .transfer .count ≡ w .calls
   -- a transfer that runs has not met its budget
-  pub within : w .transfer .state ≡ Running → w .transfer .count < budget
+  pub within : w .transfer .state ≡ Running → w .transfer .count < s .budget
   -- "A run that says done has reached offset L and holds exactly those L bytes, whatever its budget."
-  pub done : w .transfer .state ≡ Done → (w .transfer .reached .0 ≡ length text) × (w .accepted ≡ text) × (w .buffer ≡ text ++ drop (length text) buffer)
+  pub done : w .transfer .state ≡ Done →
+      (w .transfer .reached .0 ≡ length (s .text)) × (w .accepted ≡ s .text) × (w .buffer ≡ s .text ++ drop (length (s .text)) (s .buffer))
   -- "If at most k exchanges are spoiled .., and both the number of exchanges and the budget are L + 1 + k or more, the run is done and has counted at most L + 1 + k."
-  pub finished : (k : ℕ) → n ≤ k → enough (length text) k ≤ m → enough (length text) k ≤ budget → (w .transfer .state ≡ Done) × (w .transfer .count ≤ enough (length text) k)
+  pub finished : (k : ℕ) → n ≤ k → enough (length (s .text)) k ≤ m → enough (length (s .text)) k ≤ s .budget →
+      (w .transfer .state ≡ Done) × (w .transfer .count ≤ enough (length (s .text)) k)
 
 module _ (c : Calls) where
   -- ---- of each exchange
-  pub record ExchangeClaim (k : TextKind) (w : World) (e : Exchange) : Type 0 where
+  pub record ExchangeClaim (kind : TextKind) (w : World) (e : Exchange) : Type 0 where
     -- "A refused asking sends none; any other builds the request for that text, its offset the number of bytes accepted so far"; refused are a closed transfer and a short output
-    pub requests : sent c w e ≡ cond (isOpen (w .transfer) && leb outputRoom (length (e .output))) (some (requestMessage k (length (w .accepted)))) none
+    pub requests : sent c w e ≡ cond (isOpen (w .transfer) && leb outputRoom (length (e .output))) (some (requestMessage kind (length (w .accepted)))) none
     -- "that the answer is then 0 is part of the claim"
     pub answers : isOpen (w .transfer) ≡ true → Replied e → (received c w e) .answer ≡ done
+    -- "if not answered 16 or 1 it counts as one exchange": an open transfer answers neither, so each of its exchanges counts
+    pub counts : isOpen (w .transfer) ≡ true → countedBy ((received c w e) .answer) ≡ 1
     -- a corrupted exchange is refused
-    pub refuses : Corrupted k w e → (received c w e) .answer ≡ done → ⊥
+    pub refuses : Corrupted kind w e → (received c w e) .answer ≡ done → ⊥
     -- a closed transfer answers 16, and nothing changes
     pub stays : isOpen (w .transfer) ≡ false → received c w e ≡ unchanged (w .transfer) (w .buffer) transferClosed
 
-  -- ---- the whole: the text fits the room and is at most 4,096, the budget is allowed, the cursor is any two numbers, and the list is any that meets what is supposed
+  -- ---- the whole
+
+  -- where the list starts
+  abbrev pub startOf : Setup → World
+  startOf s = start c (s .kind) (s .buffer) (s .budget) (s .cursor)
+
+  -- the list is any of the exchanges that meet what is supposed
+  abbrev pub CourseOf : Setup → List Exchange → ℕ → Type 0
+  CourseOf s es n = Course c (s .kind) (s .text) (startOf s) es n
+
+  -- the beginning is accepted, and the claims hold of each exchange and of the end
+  abbrev pub Claims : Setup → List Exchange → ℕ → Type 0
+  Claims s es n =
+      ((c .begin (s .kind) (length (s .buffer)) (s .budget)) .answer ≡ done)
+      × Each c (ExchangeClaim (s .kind)) (startOf s) es
+      × EndClaim s (afterAll c (startOf s) es) (length es) n
+
   abbrev pub Demand3 : Type 0
-  Demand3 =
-      (k : TextKind) (text buffer : List ℕ) (budget : ℕ) (cursor : Cursor) →
-      Bytes text → length text ≤ longestText → length text ≤ length buffer → budget ≤ mostBudget →
-      (es : List Exchange) (n : ℕ) → Course c k text (start c k buffer budget cursor) es n →
-      ((c .begin k (length buffer) budget) .answer ≡ done)
-      × Each c (ExchangeClaim k) (start c k buffer budget cursor) es
-      × EndClaim text buffer budget (afterAll c (start c k buffer budget cursor) es) (length es) n
-
-  -- ---- which lists the suppositions leave out
-
-  -- an exchange with a conforming display, in which a fragment of the text's kind at the offset reached comes only as that display's own whole reply
-  pub record Genuine (k : TextKind) (text : List ℕ) (w : World) (e : Exchange) : Type 0 where
-    pub follows : Follows c k text w e
-    pub own : isOpen (w .transfer) ≡ true → (d : List ℕ) → Valid replies (fragmentFor k (w .transfer .reached .0) d) →
-        Begins (e .came) (fragmentMessage k (w .transfer .reached .0) d) → Replied e
-
-  -- every list of such exchanges meets what is supposed, and no other does: only a foreign fragment at the very offset is left out
-  pub record Covers : Type 0 where
-    pub met : (k : TextKind) (text buffer : List ℕ) (budget : ℕ) (cursor : Cursor) →
-        Bytes text → length text ≤ longestText → length text ≤ length buffer → budget ≤ mostBudget →
-        (es : List Exchange) → Each c (Genuine k text) (start c k buffer budget cursor) es → (n : ℕ) × Course c k text (start c k buffer budget cursor) es n
-    pub only : (k : TextKind) (text : List ℕ) (w : World) (es : List Exchange) (n : ℕ) → Course c k text w es n → Each c (Genuine k text) w es
-
-  -- ---- no fewer are enough: a list of one exchange less, with a budget of one less, of which none is corrupted, ends exhausted
-  pub record Tight : Type 0 where
-    pub kind : TextKind
-    pub text : List ℕ
-    pub buffer : List ℕ
-    pub budget : ℕ
-    pub cursor : Cursor
-    pub exchanges : List Exchange
-    pub course : Course c kind text (start c kind buffer budget cursor) exchanges 0
-    pub oneLess : length exchanges + 1 ≡ enough (length text) 0
-    pub budgetLess : budget + 1 ≡ enough (length text) 0
-    pub ends : afterAll c (start c kind buffer budget cursor) exchanges .transfer .state ≡ Exhausted
+  Demand3 = (s : Setup) → Supposed s → (es : List Exchange) (n : ℕ) → CourseOf s es n → Claims s es n

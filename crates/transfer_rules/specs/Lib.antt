@@ -4,3 +4,4 @@ pub mod Transfer
 pub mod Conforming
 pub mod Exchange
 pub mod Demand3
+pub mod Coverage

@@ -10,12 +10,11 @@ use std::process::Command;
 const EXAMPLE_WRITES: &str = "\
 set brightness to 100: 51 84 03 10 00 64 CC
 answer 0: code 10 is 50 of 100
-cut by a byte: answer 4, the length byte is wrong, or the slice does not agree with it
-(vcp(10 14(05 08))): 5 nodes vcp 10 14 05 08
-(): 0 nodes
-(a(b)(c)): refused 13 at 5, the capabilities string does not follow the grammar
-(vcp(10 12))
-in 5 exchanges
+cut by a byte: answer 4
+(vcp(10 14(05 08))): 5 nodes, the last is 08
+(a(b)(c)): refused 13 at 5
+the same fragment again: answer 10
+state 2 after 5 exchanges: (vcp(10 12))
 ";
 
 const DISPLAY_WRITES: &str = "\

@@ -9,3 +9,4 @@ pub mod Sizes
 pub mod Texts
 pub mod Starts
 pub mod Refuted
+pub mod RefutedSentences

@@ -1,20 +1,21 @@
--- The step follows the paper's sentences on Table write, and the numbers of Text and Table read: the theorems of specs/Texts.antt.
+-- The step follows the paper's sentences on Table write, and the numbers and replies of Text and Table read: the theorems of specs/Texts.antt.
 use mathlib.Core.Path.{_≡_, refl, sym, ap, _∙_}
 use mathlib.Core.Bool.{Bool, true, false, cond}
 use mathlib.Core.List.{List, _++_}
 use Prim.Native.Nat.{ℕ, _+_, _-_, _≤_, _<_}
 use native.Mathlib.Omega.{arith}
 use lib.ListN.{length, getD, take, drop, length-append, length-drop, List·getD-append}
-use lib.Seq.{length-take-le, getD-take, getD-drop, getD-append-add}
+use lib.Seq.{length-take-le, getD-take, getD-drop, getD-append-add, take-append-seam}
 use lib.Dec.{eqb, ltb}
 use borrow.Author.Tests.{eqb-true, eqb-false, eq-eqb, ne-eqb, le-leb, lt-leb, ltb-false, le-ltb}
 use Rattle.message_rules.specs.Message.{text, tableRead, tableWrite, null, toHost}
 use Rattle.message_rules.proofs.Order.{null-read}
+use Rattle.message_rules.specs.declared.TextKind.the-variants.{Capabilities, Table}
 use Rattle.display_rules.specs.Turn.{refusal}
 use Rattle.display_rules.specs.Fragments.{readTurn, tableReadTurn}
 use Rattle.display_rules.specs.Table.{writeAnswer, lengthAfter, written, tableWriteTurn}
 use Rattle.display_rules.specs.Step.{outcome, step}
-use Rattle.display_rules.specs.Texts.{Writes, WriteNumbers, TableReads, ReadNumbers}
+use Rattle.display_rules.specs.Texts.{Writes, WriteNumbers, TextReads, TableReads, ReadNumbers}
 use Rattle.display_rules.specs.declared.Display.{Display}
 use Rattle.display_rules.proofs.Sound.{write-accepted}
 use Rattle.display_rules.proofs.Operations.{obeys, replies-with}
@@ -159,6 +160,10 @@ write-numbers d lent table message out c at s w r = rw (obeys d lent table messa
 
 -- ---- a read
 
+of-text : (d : Display) (lent table out : List ℕ) (q : ℕ) → TextReads lent (outcome (readTurn Capabilities d lent table q) out)
+unfolding readTurn
+of-text d lent table out q = record { answer = refl; sent = take-append-seam _ _ }
+
 of-table-read : (d : Display) (lent table out : List ℕ) (c q : ℕ) → TableReads d table out c (outcome (tableReadTurn d lent table c q) out)
 unfolding tableReadTurn readTurn
 of-table-read d lent table out c q = record {
@@ -166,11 +171,11 @@ of-table-read d lent table out c q = record {
   otherwise = λ e. rw (eq-eqb c 0xF4 e);
   null = λ n. rw (ne-eqb c 0xF4 n) (replies-with 3 _ out (refusal 8 d table (null toHost)) (null-read .fixed) refl refl);
   stays = λ n. rw (ne-eqb c 0xF4 n) (record { display = refl; table = refl });
+  sent = λ e. rw (eq-eqb c 0xF4 e) (take-append-seam (readTurn Table d lent table q .reply) _);
 }
 
 pub read-numbers : ReadNumbers step
-unfolding readTurn
 read-numbers = record {
-  text = λ d lent table message out q w r. rw (obeys d lent table message out (text q) w r);
+  text = λ d lent table message out q w r. rw (obeys d lent table message out (text q) w r) (of-text d lent table out q);
   table = λ d lent table message out c q w r. rw (obeys d lent table message out (tableRead c q) w r) (of-table-read d lent table out c q);
 }

@@ -3,9 +3,9 @@ use Prim.Native.Nat.{ℕ, _+_, _-_, _≤_, _<_}
 use mathlib.Core.Path.{_≡_}
 use mathlib.Core.Logic.{_⊎_}
 use mathlib.Core.Bool.{Bool, true, false, cond, _&&_, _||_}
-use mathlib.Core.List.{List, [], _∷_}
+use mathlib.Core.List.{List, [], _∷_, _++_}
 use lib.ListN.{length, take, drop}
-use lib.Dec.{eqb}
+use lib.Dec.{eqb, ltb}
 use Rattle.checksum.specs.Bytes.{Bytes}
 use Rattle.codes.specs.Codes.{allCodes, howMany, countOf}
 use Rattle.message_rules.specs.Answer.{done, unknownCommand, codeNotAllowed}
@@ -23,7 +23,6 @@ use Rattle.display_rules.specs.Limits.{tableRoom}
 use Rattle.display_rules.specs.State.{startingCursor, cursorOf, withSettings, start, declare}
 use Rattle.display_rules.specs.Turn.{bytesOf}
 use Rattle.display_rules.specs.Fragments.{lesser, fragmentAt, foundBytes, fragmentReply}
-use Rattle.display_rules.specs.Table.{written}
 use Rattle.display_rules.specs.Step.{Outcome, lentWell}
 use Rattle.message_rules.specs.declared.TextKind.{TextKind}
 use Rattle.message_rules.specs.declared.TextKind.the-variants.{Capabilities, Table}
@@ -116,7 +115,7 @@ pub record Reads (k : TextKind) (d : Display) (lent table out : List ℕ) (q : �
   -- "Otherwise go to 0."
   pub other : (q ≡ cursorOf k d .offset .0 → ⊥) → (q ≡ cursorOf k d .offset .0 + cursorOf k d .len → ⊥) → cursorOf k (o .display) .offset .0 ≡ 0
   -- "The piece is the next min(piece size, bytes left) bytes; at the end it has none."
-  pub size : cursorOf k (o .display) .len ≡ lesser (d .size) (length (whole k d lent table) - cursorOf k (o .display) .offset .0)
+  pub size : let left = length (whole k d lent table) - cursorOf k (o .display) .offset .0 in cursorOf k (o .display) .len ≡ cond (ltb (d .size) left) (d .size) left
   -- "The reply carries the place's new offset" and the bytes from there
   pub sent : take (o .len) (o .out) ≡ bytesOf (fragmentReply k (cursorOf k (o .display)) (fragmentAt (whole k d lent table) (cursorOf k (o .display))))
   pub rest : drop (o .len) (o .out) ≡ drop (o .len) out
@@ -154,7 +153,7 @@ OthersKeep step = (k : TextKind) (d : Display) (lent table message out : List �
 
 -- at offset 0 the table is the data; above 0 the data stand at the offset, and what was before and behind them stays
 abbrev pub tableAfter : (table : List ℕ) (at : ℕ) (s : List ℕ) → List ℕ
-tableAfter table at s = cond (eqb at 0) s (written table at s)
+tableAfter table at s = cond (eqb at 0) s (take at table ++ (s ++ drop (at + length s) table))
 
 -- every write is accepted that none of the refusals names, and the next read starts anew
 abbrev pub WritesGoIn : StepRule → Type 0

@@ -1,12 +1,13 @@
--- Document 01, "The board": Table write sentence by sentence, and the numbers of Text and Table read, of any rule for steps. `ReadsFollow` says what a read sends.
+-- Document 01, "The board": Table write sentence by sentence, and the numbers and replies of Text and Table read, of any rule for steps.
 use Prim.Native.Nat.{ℕ, _+_, _≤_, _<_}
 use mathlib.Core.Path.{_≡_}
 use mathlib.Core.List.{List, [], _∷_}
-use lib.ListN.{length, getD}
-use Rattle.message_rules.specs.Message.{text, tableRead, tableWrite}
+use lib.ListN.{length, getD, take, drop}
+use Rattle.message_rules.specs.Message.{text, tableRead, tableWrite, textFragment, tableFragment, replies, encode, toHost}
 use Rattle.display_rules.specs.Step.{Outcome}
 use Rattle.display_rules.specs.Statements.{StepRule}
 use Rattle.display_rules.specs.Operations.{LentRight, Says, NoReply, Replies, Stays}
+use Rattle.display_rules.specs.declared.FragmentCursor.{FragmentCursor}
 use Rattle.display_rules.specs.declared.Display.{Display}
 
 -- ---- Table write
@@ -40,7 +41,18 @@ abbrev pub WriteNumbers : StepRule → Type 0
 WriteNumbers step = (d : Display) (lent table message out : List ℕ) (c at : ℕ) (s : List ℕ) → LentRight d lent table out
     → Says message (tableWrite c at s) → Writes d table out c at s (step d lent table message out)
 
--- ---- Text, Table read
+-- ---- Text, Table read: `ReadsFollow` says where a read goes
+
+-- the bytes of a text at a fragment cursor
+abbrev pub partAt : List ℕ → FragmentCursor → List ℕ
+partAt s c = take (c .len) (drop (c .offset .0) s)
+
+pub record TextReads (lent : List ℕ) (o : Outcome) : Type 0 where
+  -- of Text the paper names no refusal
+  pub answer : o .answer ≡ 0
+  -- "Text piece E3", of the capabilities string: "The reply carries the place's new offset."
+  pub sent : take (o .len) (o .out)
+      ≡ encode replies toHost (textFragment (o .display .capabilities .cursor .offset .0) (partAt lent (o .display .capabilities .cursor)))
 
 pub record TableReads (d : Display) (table out : List ℕ) (c : ℕ) (o : Outcome) : Type 0 where
   -- "8 unless F4"
@@ -49,10 +61,12 @@ pub record TableReads (d : Display) (table out : List ℕ) (c : ℕ) (o : Outcom
   -- 8: "nothing; Table read: null message, length 3"; "the three bytes 6E 80 BE"
   pub null : (c ≡ 0xF4 → ⊥) → Replies 3 (0x6E ∷ 0x80 ∷ 0xBE ∷ []) out o
   pub stays : (c ≡ 0xF4 → ⊥) → Stays d table o
+  -- "Table piece E4", of the call list
+  pub sent : c ≡ 0xF4
+      → take (o .len) (o .out) ≡ encode replies toHost (tableFragment (o .display .table .cursor .offset .0) (partAt table (o .display .table .cursor)))
 
 pub record ReadNumbers (step : StepRule) : Type 0 where
-  -- of Text the paper names no refusal
   pub text : (d : Display) (lent table message out : List ℕ) (q : ℕ) → LentRight d lent table out → Says message (text q)
-      → step d lent table message out .answer ≡ 0
+      → TextReads lent (step d lent table message out)
   pub table : (d : Display) (lent table message out : List ℕ) (c q : ℕ) → LentRight d lent table out → Says message (tableRead c q)
       → TableReads d table out c (step d lent table message out)

@@ -1,9 +1,10 @@
 -- What `capabilities::read` promises meets demand 2.
 -- Assumes nothing.
-use Prim.Native.Nat.{ℕ}
+use Prim.Native.Nat.{ℕ, zero, suc}
 use mathlib.Core.Path.{_≡_, refl, sym, ap, _∙_}
 use mathlib.Core.List.{List}
 use native.Mathlib.Omega.{arith}
+use Rattle.message_rules.specs.declared.Position.{Position}
 use Rattle.capabilities_rules.specs.Grammar.{Items, Node, Fits, size, nodesFrom}
 use Rattle.capabilities_rules.specs.Outcome.{told, refused, outcome}
 use Rattle.capabilities_rules.specs.Nodes.{nodesOf}
@@ -14,26 +15,24 @@ use Rattle.capabilities_rules.specs.declared.Reading.{Reading}
 use Rattle.capabilities_rules.specs.declared.Reading.the-variants.{Accepted, Refused}
 use Rattle.capabilities_rules.proofs.Theorems.{theorems}
 
--- a refusal's number is not 0, so it leaves the buffers
-unchanged : {room k p : ℕ} {s : List ℕ} (xs : List Node) (t : Buffers) → Why room s k p → written k xs t ≡ t
-unchanged xs t (too-long _) = refl
-unchanged xs t (cut-short _ _) = refl
-unchanged xs t (wrong-byte _ _ _) = refl
-unchanged xs t (ninth-open _ _ _ _ _ _) = refl
-unchanged xs t (no-node _ _ _ _ _) = refl
+-- no reason has the number 0
+not-done : {room k p : ℕ} {s : List ℕ} → Why room s k p → k ≡ 0 → ⊥
+not-done (too-long _) e = omega arith
+not-done (cut-short _ _) e = omega arith
+not-done (wrong-byte _ _ _) e = omega arith
+not-done (ninth-open _ _ _ _ _ _) e = omega arith
+not-done (no-node _ _ _ _ _) e = omega arith
 
-pub refusal-leaves : (room k p : ℕ) (s : List ℕ) (xs : List Node) (t : Buffers) → outcome room s ≡ refused k p → written k xs t ≡ t
-refusal-leaves room k p s xs t e = unchanged xs t (theorems .refusals room k p s e)
+-- so a refusal's number is not 0, and what was lent stays
+pub refusal-number : (room k : ℕ) (p : Position) (s : List ℕ) → outcome room s ≡ Refused k p → k ≡ 0 → ⊥
+refusal-number room k p s e = not-done (theorems .refusals room k (p .0) s e)
 
-not-done : {room p : ℕ} {s : List ℕ} → Why room s 0 p → ⊥
-not-done w = go w refl
-  where
-    go : {room k p : ℕ} {s : List ℕ} → Why room s k p → k ≡ 0 → ⊥
-    go (too-long _) e = omega arith
-    go (cut-short _ _) e = omega arith
-    go (wrong-byte _ _ _) e = omega arith
-    go (ninth-open _ _ _ _ _ _) e = omega arith
-    go (no-node _ _ _ _ _) e = omega arith
+leaves : (k : ℕ) (xs : List Node) (t : Buffers) → (k ≡ 0 → ⊥) → written k xs t ≡ t
+leaves zero xs t h = absurd (h refl)
+leaves (suc k) xs t h = refl
+
+pub refusal-leaves : (room k : ℕ) (p : Position) (s : List ℕ) (xs : List Node) (t : Buffers) → outcome room s ≡ Refused k p → written k xs t ≡ t
+refusal-leaves room k p s xs t e = leaves k xs t (refusal-number room k p s e)
 
 module _ (s : List ℕ) (t t′ : Buffers) (r : Reading) (a : Answered s t t′ r) where
   fitting : (xs : Items) → Fits (roomIn t) s xs → Accepts s t t′ r xs
@@ -50,11 +49,11 @@ module _ (s : List ℕ) (t t′ : Buffers) (r : Reading) (a : Answered s t t′ 
   refusing : (k p : ℕ) → r ≡ refused k p → Why (roomIn t) s k p × (t′ ≡ t)
   refusing k p e =
       let o = sym (a .answer) ∙ e in
-      (theorems .refusals (roomIn t) k p s o, a .stored ∙ ap (λ (x : Reading). written (told x .number) (nodesOf s) t) e ∙ refusal-leaves (roomIn t) k p s (nodesOf s) t o)
+      (theorems .refusals (roomIn t) k p s o, a .stored ∙ ap (λ (x : Reading). written (told x .number) (nodesOf s) t) e ∙ refusal-leaves (roomIn t) k (record { 0 = p }) s (nodesOf s) t o)
 
   accepting : (x : Reading) → r ≡ x → told x .number ≡ 0 → (xs : Items) × Accepts s t t′ r xs
   accepting (Accepted n) e z = let x = theorems .accepted (roomIn t) n s (sym (a .answer) ∙ e) in (x .0, fitting (x .0) (x .1))
-  accepting (Refused k p) e z = absurd (not-done (rw z at (refusing k (p .0) e .0)))
+  accepting (Refused k p) e z = absurd (not-done (refusing k (p .0) e .0) z)
 
   read-rightly : ReadRightly s t t′ r
   read-rightly = record {

@@ -2,12 +2,11 @@
 use crate::part::behind;
 use crate::part::front;
 use crate::text;
-use message_rules::answer;
 
 // The width of a meaning's column.
 const WIDTH: usize = 24;
 
-// A text without the spaces behind it.
+// Returns a text without the spaces behind it.
 fn trimmed(s: &[u8]) -> &[u8] {
     let mut n = s.len();
     while n > 0 {
@@ -19,15 +18,17 @@ fn trimmed(s: &[u8]) -> &[u8] {
     &s[0..0]
 }
 
-// The last number has its meaning for any above it too.
-fn column(n: u8) -> usize {
-    if n < answer::NOT_DECLARABLE {
-        return n as usize * WIDTH;
+// Writes a meaning of the table, or that there is none.
+fn known(to: i32, s: &[u8]) {
+    if s.len() == 0 {
+        text(to, b"unknown answer");
+    } else {
+        text(to, s);
     }
-    answer::NOT_DECLARABLE as usize * WIDTH
 }
 
-// An answer number and its meaning, as `9, value above the maximum`. The meanings stand in the order of their numbers.
+// Writes an answer number and its meaning, as `9, value above the maximum`.
+// The meanings stand in the order of their numbers, a line each: a further number is a further line.
 pub fn meaning(to: i32, n: u8) {
     let meanings = b"done                    \
         wrong size lent         \
@@ -42,7 +43,7 @@ pub fn meaning(to: i32, n: u8) {
         not the fragment wanted \
         no room for it          \
         null message            \
-        brackets or bytes wrong \
+        not in the grammar      \
         too many words          \
         too deep                \
         transfer closed         \
@@ -50,5 +51,8 @@ pub fn meaning(to: i32, n: u8) {
         not to be declared      ";
     crate::number(to, n as u64, 0);
     text(to, b", ");
-    text(to, trimmed(front(behind(meanings, column(n)), WIDTH)));
+    known(
+        to,
+        trimmed(front(behind(meanings, n as usize * WIDTH), WIDTH)),
+    );
 }

@@ -2,14 +2,14 @@
 ghost use mathlib.Core.Path.{_≡_};
 ghost use lib.ListN.{take, drop};
 
-// The first n bytes, or all where there are fewer.
+// Returns the first n bytes, or all where there are fewer.
 pub fn front(s: &[u8], n: usize) -> &[u8]
     ensures { λ r. ⌜ now r ≡ take n (now (s .entry)) ⌝ }
 {
     if n < s.len() { &s[0..n] } else { s }
 }
 
-// What stands behind the first n bytes.
+// Returns what stands behind the first n bytes.
 pub fn behind(s: &[u8], n: usize) -> &[u8]
     ensures { λ r. ⌜ now r ≡ drop n (now (s .entry)) ⌝ }
 {

@@ -1,16 +1,23 @@
-// The tree of a capabilities string, one word a line.
+// The tree of a capabilities string, one word a line; and of a refused one, what is wrong with it.
 use crate::part::behind;
 use crate::part::front;
 use crate::text;
 use capabilities_rules::Reading;
 use capabilities_rules::limits::DEEPEST;
 use capabilities_rules::limits::MOST_NODES;
+use message_rules::Position;
+use message_rules::answer;
+ghost use mathlib.Core.Path.{_≡_};
+ghost use lib.Dec.{eqb};
+ghost use Rattle.message_rules.specs.Answer.{done};
+ghost use Rattle.capabilities_rules.specs.Limits.{mostNodes};
+ghost use Rattle.capabilities_rules.specs.Outcome.{told, outcome};
 
 fn wide(x: u16) -> usize {
     x as usize
 }
 
-// The entry `at` of a buffer, or 0 past its end.
+// Returns the entry `at` of a buffer, or 0 past its end.
 fn entry(values: &[u16], at: usize) -> usize {
     if at < values.len() {
         return wide(values[at]);
@@ -18,7 +25,7 @@ fn entry(values: &[u16], at: usize) -> usize {
     0
 }
 
-// How many groups a node stands in.
+// Returns how many groups a node stands in.
 fn levels(parents: &[u16], node: usize) -> usize {
     let mut at = node;
     let mut count = 0;
@@ -33,7 +40,7 @@ fn levels(parents: &[u16], node: usize) -> usize {
     count
 }
 
-// A word behind the margin and the spaces of its level, two for each but the first.
+// Writes a word behind the margin and the spaces of its level, two for each but the first.
 fn word(to: i32, margin: &[u8], s: &[u8], level: usize) {
     let spaces = front(b"                  ", level % 10 * 2);
     text(to, margin);
@@ -42,6 +49,7 @@ fn word(to: i32, margin: &[u8], s: &[u8], level: usize) {
     text(to, b"\n");
 }
 
+// Writes the words of the first `count` nodes.
 fn words(
     to: i32,
     margin: &[u8],
@@ -58,15 +66,15 @@ fn words(
     }
 }
 
-// `refused N at P`.
-fn refusal(to: i32, margin: &[u8], number: u8, place: usize) {
+// Writes `refused N at P`.
+fn refusal(to: i32, margin: &[u8], number: u8, place: Position) {
     text(to, margin);
     crate::counted(to, b"refused ", number as u64, b" at ");
-    crate::number(to, place as u64, 0);
+    crate::number(to, place.0 as u64, 0);
     text(to, b"\n");
 }
 
-// What a capabilities string is read to: the words' places, and their parents.
+// What a capabilities string is read to: the words' places and lengths, and their parents.
 struct Nodes {
     starts: [u16; MOST_NODES],
     lengths: [u16; MOST_NODES],
@@ -74,7 +82,10 @@ struct Nodes {
     reading: Reading,
 }
 
-fn read(string: &[u8]) -> Nodes {
+// Returns the reading of a string with room for 512 nodes.
+fn read(string: &[u8]) -> Nodes
+    ensures { λ r. ⌜ r .reading ≡ outcome mostNodes (now (string .entry)) ⌝ }
+{
     let mut starts = [0u16; MOST_NODES];
     let mut lengths = [0u16; MOST_NODES];
     let mut parents = [0u16; MOST_NODES];
@@ -88,6 +99,7 @@ fn read(string: &[u8]) -> Nodes {
     }
 }
 
+// Writes the words of an accepted string.
 fn tree(to: i32, margin: &[u8], string: &[u8], n: Nodes, count: usize) {
     let starts = n.starts;
     let lengths = n.lengths;
@@ -95,9 +107,12 @@ fn tree(to: i32, margin: &[u8], string: &[u8], n: Nodes, count: usize) {
     words(to, margin, string, &starts, &lengths, &parents, count);
 }
 
-// The tree of a capabilities string, each line behind the margin: a word a line, indented by two spaces a level.
-// A string that is refused gives one line, `refused N at P`. Whether it was accepted.
-pub fn write(to: i32, margin: &[u8], string: &[u8]) -> bool {
+// Writes the tree of a capabilities string, each line behind the margin: a word a line, indented by two spaces a level.
+// A string that is refused gives one line, `refused N at P`.
+// Returns whether it was accepted: whether its answer number is 0.
+pub fn write(to: i32, margin: &[u8], string: &[u8]) -> bool
+    ensures { λ r. ⌜ r ≡ eqb (told (outcome mostNodes (now (string .entry))) .number) done ⌝ }
+{
     let n = read(string);
     let reading = n.reading;
     match reading {
@@ -105,9 +120,55 @@ pub fn write(to: i32, margin: &[u8], string: &[u8]) -> bool {
             tree(to, margin, string, n, count);
             true
         }
-        Reading::Refused(number, position) => {
-            refusal(to, margin, number, position.0);
+        Reading::Refused(number, place) => {
+            refusal(to, margin, number, place);
             false
+        }
+    }
+}
+
+// Writes which byte is refused; a line end behind the string is the one that `echo` leaves.
+fn refused_byte(to: i32, place: Position, b: u8) {
+    crate::counted(to, b": byte ", place.0 as u64, b" is ");
+    crate::hex(to, b);
+    if b == b'\n' {
+        text(
+            to,
+            b", a line end: remove it, or write the string with printf",
+        );
+    }
+}
+
+// Writes where a string is refused, and what stands there.
+fn spot(to: i32, string: &[u8], number: u8, place: Position) {
+    let at = place.0;
+    if number == answer::TEXT_TOO_LONG {
+        text(to, b": a capabilities string has at most 4096 bytes");
+    } else if at < string.len() {
+        refused_byte(to, place, string[at]);
+    } else if at == 0 {
+        text(to, b": it is empty");
+    } else {
+        crate::counted(
+            to,
+            b": it ends at byte ",
+            at as u64,
+            b" with no closing bracket",
+        );
+    }
+}
+
+// Writes for people why a string is refused, as one line that begins with `who`; nothing where it is accepted.
+pub fn explain(to: i32, who: &[u8], string: &[u8]) {
+    let n = read(string);
+    let reading = n.reading;
+    match reading {
+        Reading::Accepted(_) => {}
+        Reading::Refused(number, place) => {
+            text(to, who);
+            crate::answer::meaning(to, number);
+            spot(to, string, number, place);
+            text(to, b"\n");
         }
     }
 }

@@ -67,7 +67,7 @@ returns-2 c =
     let t : Buffers = buffers (x .starts .now) (x .lengths .now) (x .parents .now) (x .groups .now) in
     let a = c .before .judged2 .given in
     let e : outcome (bufferRoom t) s ≡ Refused (a .0 .0) (a .0 .1 .0) = ap (λ (n : ℕ). outcome n s) (sym (c .before .before .before .before .room-of .ensures)) ∙ sym (c .before .before .before .check .ensures) ∙ a .1 in
-    record { answer = sym e; stored = sym (refusal-leaves (bufferRoom t) (a .0 .0) (a .0 .1 .0 .0) s (nodesOf s) t e) }
+    record { answer = sym e; stored = sym (refusal-leaves (bufferRoom t) (a .0 .0) (a .0 .1 .0) s (nodesOf s) t e) }
 
 pub read-spec : {M : Type 1} → statement M
 read-spec =

@@ -28,6 +28,7 @@ pub(crate) struct Got {
     pub(crate) present: u16,
 }
 
+// Returns the length of a message, or 0 where it was not built.
 fn length_of(built: Built) -> usize {
     match built {
         Built::Done(n) => n,
@@ -35,14 +36,14 @@ fn length_of(built: Built) -> usize {
     }
 }
 
-// A start, then brightness (80 of 100) and input (17, not continuous).
+// Sends a start, then declares brightness (80 of 100) and input (17, not continuous).
 pub(crate) fn start(mut h: Host, record: &[u8]) -> Host {
     h = pipe::tell(h, pipe::START, record);
     h = pipe::tell(h, pipe::DECLARE, b"\x10\x01\x01\x00\x01\x64\x00\x50\x00");
     pipe::tell(h, pipe::DECLARE, b"\x60\x01\x01\x00\x00\x00\x00\x11\x00")
 }
 
-// A Table write of the list's bytes from a number on.
+// Sends a Table write of the list's bytes from the offset `at` on.
 fn write_part(h: Host, list: &[u8], at: usize) -> Host {
     let mut m = [0u8; OUTPUT_ROOM];
     let offset = TextOffset((at % 65536) as u16);
@@ -51,19 +52,20 @@ fn write_part(h: Host, list: &[u8], at: usize) -> Host {
     pipe::tell(h, pipe::MESSAGE, front(&m, length_of(built)))
 }
 
-// The list in its two parts.
+// Sends the list in its two parts.
 pub(crate) fn write_list(mut h: Host, list: &[u8]) -> Host {
     h = write_part(h, list, 0);
     write_part(h, list, MOST_WRITTEN)
 }
 
+// Sends a Set of brightness.
 fn set(h: Host, value: u16) -> Host {
     let mut m = [0u8; OUTPUT_ROOM];
     let built = request::build_set(TO_DISPLAY, BRIGHTNESS, value, &mut m);
     pipe::tell(h, pipe::MESSAGE, front(&m, length_of(built)))
 }
 
-// What a reply to a Get says. A reply that the line has spoiled says nothing.
+// Returns what a reply to a Get says. A reply that the line has spoiled says nothing.
 fn heard(h: Host) -> Got {
     let reply = h.reply;
     match read_display_reply(front(&reply, h.len)) {
@@ -79,6 +81,7 @@ fn heard(h: Host) -> Got {
     }
 }
 
+// Returns that no value came.
 fn nothing(h: Host) -> Got {
     Got {
         host: h,
@@ -87,6 +90,7 @@ fn nothing(h: Host) -> Got {
     }
 }
 
+// Sends a Get of brightness, and returns what came.
 fn get_once(mut h: Host) -> Got {
     let mut m = [0u8; OUTPUT_ROOM];
     let built = request::build_get(TO_DISPLAY, BRIGHTNESS, &mut m);
@@ -97,6 +101,7 @@ fn get_once(mut h: Host) -> Got {
     heard(h)
 }
 
+// Sends a Get until a value comes, and returns it.
 fn get(first: Host) -> Got {
     let mut g = nothing(first);
     let mut left = TRIES;
@@ -112,6 +117,7 @@ fn get(first: Host) -> Got {
     g
 }
 
+// Sets brightness, and returns what a Get then says.
 pub(crate) fn set_and_get(h: Host) -> Got {
     get(set(h, BRIGHT))
 }

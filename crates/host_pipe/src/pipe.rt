@@ -29,6 +29,8 @@ pub(crate) const REFUSED: u8 = 5;
 
 pub(crate) const NOT_WRITTEN: u8 = 6;
 
+pub(crate) const NOT_READ: u8 = 7;
+
 // How many records were sent; of the last one that came back the answer, the reply and its length; and what went wrong.
 pub(crate) struct Host {
     pub(crate) records: u64,
@@ -38,6 +40,7 @@ pub(crate) struct Host {
     pub(crate) fault: u8,
 }
 
+// Returns the host before its first record.
 pub(crate) fn fresh() -> Host {
     Host {
         records: 0,
@@ -48,20 +51,23 @@ pub(crate) fn fresh() -> Host {
     }
 }
 
+// Returns the host with a fault.
 pub(crate) fn faulty(mut h: Host, fault: u8) -> Host {
     h.fault = fault;
     h
 }
 
-// A 16-bit number of a record, the low byte first.
+// Returns a 16-bit number of a record, the low byte first.
 fn word(low: u8, high: u8) -> usize {
     low as usize + high as usize * 256
 }
 
+// Returns the first n bytes, or all where there are fewer.
 fn front_mut(s: &mut [u8], n: usize) -> &mut [u8] {
     if n < s.len() { &mut s[0..n] } else { s }
 }
 
+// Writes a record, and returns whether all of it was taken.
 fn write_record(kind: u8, body: &[u8]) -> bool {
     let length = body.len();
     let head = [kind, (length % 256) as u8, (length / 256 % 256) as u8];
@@ -71,14 +77,24 @@ fn write_record(kind: u8, body: &[u8]) -> bool {
     false
 }
 
+// Returns what is wrong where no byte came: an input that has ended, or one that cannot be read.
+fn silence() -> u8 {
+    if show::input::readable(STDIN_FILENO) {
+        return ENDED;
+    }
+    NOT_READ
+}
+
+// Returns what is wrong with a head of which so many bytes came.
 fn head_fault(got: usize) -> u8 {
     match got {
-        0 => ENDED,
+        0 => silence(),
         HEAD => NONE,
         _ => CUT,
     }
 }
 
+// Returns the host with the answer number and the reply's length of the record that comes.
 fn read_head(mut h: Host) -> Host {
     let mut head = [0u8; HEAD];
     let got = io::read_full(STDIN_FILENO, &mut head);
@@ -88,6 +104,7 @@ fn read_head(mut h: Host) -> Host {
     h
 }
 
+// Returns the host with the reply behind that head.
 fn read_reply(mut h: Host) -> Host {
     let mut reply = [0u8; OUTPUT_ROOM];
     let length = h.len;
@@ -101,6 +118,7 @@ fn read_reply(mut h: Host) -> Host {
     h
 }
 
+// Returns the host with the record that comes.
 fn read_record(mut h: Host) -> Host {
     h = read_head(h);
     if h.fault == NONE {
@@ -109,7 +127,7 @@ fn read_record(mut h: Host) -> Host {
     h
 }
 
-// Sends a record and reads the one that comes back. After a fault nothing more is sent.
+// Sends a record, and returns the host with the one that comes back. After a fault nothing more is sent.
 pub(crate) fn exchange(mut h: Host, kind: u8, body: &[u8]) -> Host {
     if h.fault != NONE {
         return h;
@@ -121,7 +139,7 @@ pub(crate) fn exchange(mut h: Host, kind: u8, body: &[u8]) -> Host {
     faulty(h, NOT_WRITTEN)
 }
 
-// A record that should be answered with 0 and no reply.
+// Sends a record that should be answered with 0 and no reply.
 pub(crate) fn tell(mut h: Host, kind: u8, body: &[u8]) -> Host {
     h = exchange(h, kind, body);
     if h.fault != NONE {

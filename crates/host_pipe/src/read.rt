@@ -18,6 +18,7 @@ pub(crate) struct Reading {
     pub(crate) buffer: [u8; LONGEST_TEXT],
 }
 
+// Returns whether a transfer is open.
 fn is_running(t: Transfer) -> bool {
     let state = t.state;
     match state {
@@ -28,6 +29,7 @@ fn is_running(t: Transfer) -> bool {
     }
 }
 
+// Returns whether a transfer has its whole text.
 pub(crate) fn is_done(t: Transfer) -> bool {
     let state = t.state;
     match state {
@@ -38,14 +40,14 @@ pub(crate) fn is_done(t: Transfer) -> bool {
     }
 }
 
-// The transfer's next request is sent, and its reply read.
+// Sends the transfer's next request, and returns the host with its reply.
 fn ask(h: Host, t: Transfer) -> Host {
     let mut request = [0u8; OUTPUT_ROOM];
     let asked = transfer::request(t, &mut request);
     pipe::exchange(h, pipe::MESSAGE, front(&request, asked.len))
 }
 
-// The reply that came is given to the transfer.
+// Returns the transfer after the reply that came was given to it.
 fn receive(mut r: Reading, h: Host) -> Reading {
     let before = r.transfer;
     let reply = h.reply;
@@ -57,6 +59,7 @@ fn receive(mut r: Reading, h: Host) -> Reading {
     r
 }
 
+// Returns the transfer after one exchange.
 fn exchange(mut r: Reading) -> Reading {
     let mut h = r.host;
     let t = r.transfer;
@@ -68,11 +71,13 @@ fn exchange(mut r: Reading) -> Reading {
     receive(r, h)
 }
 
+// Returns whether the transfer of a reading is open.
 fn goes_on(r: Reading) -> bool {
     let t = r.transfer;
     is_running(t)
 }
 
+// Returns the transfer after exchanges until it closes, or the budget's number of them.
 fn exchanges(mut r: Reading) -> Reading {
     let mut left = BUDGET;
     while left > 0 {
@@ -87,6 +92,7 @@ fn exchanges(mut r: Reading) -> Reading {
     r
 }
 
+// Returns what reading a text through a transfer brought.
 pub(crate) fn text(h: Host, kind: TextKind) -> Reading {
     let buffer = [0u8; LONGEST_TEXT];
     let begun = transfer::begin(kind, &buffer, BUDGET);

@@ -10,7 +10,17 @@ use transfer_rules::Transfer;
 
 const TO: i32 = STDERR_FILENO;
 
-// What is wrong with the record, and what to do.
+// Writes that a record which should be taken is not, and what to do.
+fn refused(answer: u8) {
+    show::text(TO, b" is a refusal: ");
+    show::answer::meaning(TO, answer);
+    show::text(
+        TO,
+        b": see that the other end is display_pipe, newly started\n",
+    );
+}
+
+// Writes what is wrong with the record, and what to do.
 fn wrong(h: Host) {
     let fault = h.fault;
     match fault {
@@ -34,7 +44,11 @@ fn wrong(h: Host) {
             h.len as u64,
             b" bytes where no reply is due: see that the other end is display_pipe\n",
         ),
-        pipe::REFUSED => show::answered(TO, b" is refused: ", h.answer),
+        pipe::REFUSED => refused(h.answer),
+        pipe::NOT_READ => show::text(
+            TO,
+            b" could not be read: give the display's output, a pipe that is open, as standard input\n",
+        ),
         _ => show::text(
             TO,
             b" could not be asked for, the output is closed: see what the display wrote to standard error\n",
@@ -42,13 +56,13 @@ fn wrong(h: Host) {
     }
 }
 
-// One line: which reply record, what is wrong with it, what to do.
+// Writes one line: which reply record, what is wrong with it, what to do.
 pub(crate) fn fault(h: Host) {
     show::counted(TO, b"host_pipe: reply record ", h.records, b"");
     wrong(h);
 }
 
-// The brightness that the display has, which should be the one that was set.
+// Writes the brightness that the display has, and returns whether it is the one that was set.
 pub(crate) fn value(records: u64, came: bool, present: u16) -> bool {
     show::counted(TO, b"records exchanged: ", records, b"\n");
     if came {
@@ -59,7 +73,7 @@ pub(crate) fn value(records: u64, came: bool, present: u16) -> bool {
     false
 }
 
-// How a transfer ended, and whether it brought these bytes.
+// Writes how a transfer ended, and returns whether it is done and brought these bytes.
 fn ended(what: &[u8], t: Transfer, same: bool) -> bool {
     show::text(TO, what);
     show::counted(TO, b": ", t.reached.0 as u64, b" bytes in ");
@@ -68,25 +82,28 @@ fn ended(what: &[u8], t: Transfer, same: bool) -> bool {
     if same { read::is_done(t) } else { false }
 }
 
-fn text(what: &[u8], r: Reading, wanted: &[u8]) -> bool {
+// Writes how the reading of a text ended, and returns whether it brought these bytes.
+fn compared(what: &[u8], r: Reading, wanted: &[u8]) -> bool {
     let t = r.transfer;
     let buffer = r.buffer;
     let same = check::same(wanted, front(&buffer, t.reached.0 as usize));
     ended(what, t, same)
 }
 
-// The capabilities string, with its tree: what was read is what was sent.
+// Writes the capabilities string's tree where what was read is what was sent, and returns whether all that held.
 pub(crate) fn string(r: Reading, wanted: &[u8]) -> bool {
-    if text(b"capabilities string", r, wanted) {
+    if compared(b"capabilities string", r, wanted) {
         return show::tree::write(TO, b"  ", wanted);
     }
     false
 }
 
+// Writes how the call list was read, and returns whether it is the one that was written.
 pub(crate) fn table(r: Reading, wanted: &[u8]) -> bool {
-    text(b"call list", r, wanted)
+    compared(b"call list", r, wanted)
 }
 
+// Writes whether everything held.
 pub(crate) fn verdict(value: bool, string: bool, table: bool) {
     if value {
         if string {

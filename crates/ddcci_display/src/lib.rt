@@ -1,12 +1,15 @@
-// The display for Rust and C: its state is a struct of numbers and arrays by value, and all else goes by slices. Thin over the proved functions, refusing like them.
+// The display for Rust and C: its state is a struct of numbers and arrays by value, and all else goes by slices.
+// Thin over the proved functions, refusing like them.
 ghost use mathlib.Core.Path.{_≡_};
 ghost use lib.ListN.{length};
+ghost use Rattle.codes.specs.Codes.{countOf, nextOf};
 ghost use Rattle.message_rules.specs.Answer.{done};
 ghost use Rattle.display_rules.specs.State.{start, declare, withCursor};
 ghost use Rattle.display_rules.specs.Step.{step};
 ghost use Rattle.profile_rules.specs.Profile.{writeProfile, loadProfile};
 ghost use Rattle.display_rules.specs.declared.Found.the-variants.{Nothing, Fragment};
-ghost use Rattle.ddcci_display.specs.Numbers.{textNumber, numbers, inNumbers, loadedNumbers};
+ghost use Rattle.ddcci_display.specs.Numbers.{codeNumber, textNumber, numbers, inNumbers, loadedNumbers};
+use codes::Next;
 use display::changes;
 use display::changes::Pending;
 use display_rules::Changed;
@@ -23,27 +26,38 @@ pub const CAPABILITIES: u8 = 1;
 
 pub const TABLE: u8 = 2;
 
-// What a step returns: the display afterwards, the answer number, and the reply's length in the output; then the fragment that was sent, by its offset, its length and the number of its text. What is not there is 0. The
-// numbers that are 0 together stand together, so that they are cleared as one; that keeps the display's copies of the cases apart, and fewer.
+// What stands for a code where there is none.
+pub const NO_CODE: u16 = 256;
+
+// What a step returns. What is not there is 0.
+// The numbers of a fragment stand together, which keeps the display's copies few (docs/PROVING-NOTES.md).
 #[repr(C)]
 pub struct DisplayStepped {
+    // The display afterwards.
     pub display: Display,
+    // The answer number.
     pub answer: u8,
+    // The reply's length in the output.
     pub len: usize,
+    // The fragment that was sent: its offset in its text, its length, and the number of its text.
     pub offset: usize,
     pub count: usize,
     pub text: u8,
 }
 
-// What loading a profile returns: the display afterwards, the answer number, and the position in the profile that was refused, or its end.
+// What loading a profile returns.
 #[repr(C)]
 pub struct DisplayLoaded {
+    // The display afterwards.
     pub display: Display,
+    // The answer number.
     pub answer: u8,
+    // The position in the profile of the record that was refused, or the profile's end.
     pub position: usize,
 }
 
-// A display with a timing, a capabilities string and a fragment size, and no code declared yet.
+// Returns a display with a timing, a capabilities string and a fragment size, and no code declared yet.
+// A refused start gives the empty display.
 #[no_mangle]
 pub extern "C" fn ddcci_display_start(timing: Timing, text: &[u8], size: u16) -> Changed
     ensures { λ r. ⌜ r ≡ start timing (length (now (text .entry))) size ⌝ }
@@ -51,7 +65,7 @@ pub extern "C" fn ddcci_display_start(timing: Timing, text: &[u8], size: u16) ->
     display::start(timing, text, size)
 }
 
-// A code declared, or 18 and the same display.
+// Returns the display with a code declared, or 18 and the same display.
 #[no_mangle]
 pub extern "C" fn ddcci_display_declare(d: Display, declaration: Declaration) -> Changed
     ensures { λ r. ⌜ r ≡ declare d declaration ⌝ }
@@ -59,6 +73,27 @@ pub extern "C" fn ddcci_display_declare(d: Display, declaration: Declaration) ->
     display::declare(d, declaration)
 }
 
+// Returns how many codes are declared.
+#[no_mangle]
+pub extern "C" fn ddcci_display_declared_count(d: Display) -> u16
+    ensures { λ r. ⌜ r ≡ countOf (d .settings .declared) ⌝ }
+{
+    settings::declared_count(d.settings)
+}
+
+// Returns the least declared code from the given number on, or 256 where there is none.
+#[no_mangle]
+pub extern "C" fn ddcci_display_next_declared(d: Display, from: u16) -> u16
+    ensures { λ r. ⌜ r ≡ codeNumber (nextOf (d .settings .declared) from) ⌝ }
+{
+    let next = settings::next_declared(d.settings, from);
+    match next {
+        Next::Code(code) => code as u16,
+        Next::Nothing => NO_CODE,
+    }
+}
+
+// Returns the number of a text.
 fn text_number(kind: TextKind) -> u8
     ensures { λ r. ⌜ r ≡ textNumber kind ⌝ }
 {
@@ -68,8 +103,8 @@ fn text_number(kind: TextKind) -> u8
     }
 }
 
-// A display and an answer, with a reply of so many bytes and no fragment.
-fn plain(d: Display, answer: u8, length: usize) -> DisplayStepped
+// Returns a display with an answer and the reply's length, and no fragment.
+fn answered(d: Display, answer: u8, length: usize) -> DisplayStepped
     ensures { λ r. ⌜ r ≡ numbers d answer length Nothing ⌝ }
 {
     DisplayStepped {
@@ -82,7 +117,8 @@ fn plain(d: Display, answer: u8, length: usize) -> DisplayStepped
     }
 }
 
-// A fragment sent. Its numbers are found before the display is passed on, which is then copied once.
+// Returns the display with the cursor of the fragment that was sent.
+// The numbers are found before the display is passed on, which is then copied once.
 fn moved(d: Display, kind: TextKind, cursor: FragmentCursor, length: usize) -> DisplayStepped
     ensures { λ r. ⌜ r ≡ numbers (withCursor kind d cursor) done length (Fragment kind cursor) ⌝ }
 {
@@ -101,7 +137,8 @@ fn moved(d: Display, kind: TextKind, cursor: FragmentCursor, length: usize) -> D
     }
 }
 
-// One message to the display. As in `display::step` there is a return for each case; what that returns is not taken over from there, since the display would be copied once more.
+// Answers one message to the display, and returns the display afterwards.
+// It does what `display::step` does, with a `return` for each case; a call of that function would copy the display once more.
 #[no_mangle]
 pub extern "C" fn ddcci_display_step(
     d: Display,
@@ -115,27 +152,31 @@ pub extern "C" fn ddcci_display_step(
     let pending = display::prepare(d, text, table, message, out);
     match pending {
         Pending::Store(code, value) => {
-            return plain(changes::stored(d, code, value), answer::DONE, 0);
+            return answered(changes::stored(d, code, value), answer::DONE, 0);
+        }
+        Pending::Momentary => {
+            return answered(d, answer::DONE, 0);
         }
         Pending::Save => {
-            return plain(changes::saved(d), answer::DONE, 0);
+            return answered(changes::saved(d), answer::DONE, 0);
         }
-        Pending::Replied(answer, length) => {
-            return plain(d, answer, length);
+        Pending::Replied(length) => {
+            return answered(d, answer::DONE, length);
         }
         Pending::Moved(kind, cursor, length) => {
             return moved(d, kind, cursor, length);
         }
         Pending::Written(length) => {
-            return plain(changes::written(d, length), answer::DONE, 0);
+            return answered(changes::written(d, length), answer::DONE, 0);
         }
         Pending::Refused(answer, length) => {
-            return plain(d, answer, length);
+            return answered(d, answer, length);
         }
     }
 }
 
-// The profile of the display's saved values, into the output.
+// Writes the profile of the display's saved values into the output.
+// Returns the answer and the profile's length.
 #[no_mangle]
 pub extern "C" fn ddcci_display_write_profile(d: Display, out: &mut [u8]) -> Written
     ensures { λ r. ⌜ record { result = r; output = now (out .exit) } ≡ writeProfile (d .settings) (now (out .entry)) ⌝ }
@@ -143,7 +184,7 @@ pub extern "C" fn ddcci_display_write_profile(d: Display, out: &mut [u8]) -> Wri
     profile::write(d.settings, out)
 }
 
-// A profile's values become present and saved, or nothing changes.
+// Returns the display with a profile's values, present and saved, or the same display and where it was refused.
 #[no_mangle]
 pub extern "C" fn ddcci_display_load_profile(mut d: Display, profile: &[u8]) -> DisplayLoaded
     ensures { λ r. ⌜ r ≡ loadedNumbers d (loadProfile (d .settings) (now (profile .entry))) ⌝ }

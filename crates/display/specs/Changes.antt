@@ -1,27 +1,79 @@
--- What is left of a step once its message was judged and answered: what becomes of the display.
+-- What a message leaves to be done to the display once it was judged and answered, and what the step comes to when that is done.
 use Prim.Native.Nat.{ℕ}
-use Rattle.message_rules.specs.Answer.{done}
+use mathlib.Core.Path.{_≡_}
+use mathlib.Core.Bool.{cond}
+use mathlib.Core.List.{List}
+use lib.ListN.{length}
+use lib.Dec.{eqb}
+use Rattle.message_rules.specs.Answer.{done, wrongSize}
+use Rattle.message_rules.specs.Message.{Request, getFeature, setFeature, timing, save, text, tableRead, tableWrite, requests, decode, toDisplay}
+use Rattle.message_rules.specs.Read.{Read, ok, refused}
 use Rattle.message_rules.specs.declared.TextKind.{TextKind}
-use Rattle.settings.specs.Settings.{withPresent, saveAll}
+use Rattle.settings.specs.Settings.{judgeSet, withPresent, saveAll}
 use Rattle.display_rules.specs.State.{unsent, withSettings, withTable, withCursor}
+use Rattle.display_rules.specs.Turn.{Turn}
+use Rattle.display_rules.specs.Step.{obey, turnOf, lentWell, Outcome, left}
 use Rattle.display_rules.specs.declared.FragmentCursor.{FragmentCursor}
 use Rattle.display_rules.specs.declared.Display.{Display}
+use Rattle.display_rules.specs.declared.Found.{Found}
 use Rattle.display_rules.specs.declared.Found.the-variants.{Nothing, Fragment}
 use Rattle.display_rules.specs.declared.Stepped.{Stepped}
 use Rattle.display.specs.declared.changes.Pending.{Pending}
-use Rattle.display.specs.declared.changes.Pending.the-variants.{Store, Save, Replied, Moved, Written, Refused}
+use Rattle.display.specs.declared.changes.Pending.the-variants.{Store, Momentary, Save, Replied, Moved, Written, Refused}
 
-abbrev pub kept : Display → (answer length : ℕ) → Stepped
-kept d k n = record { display = d; answer = k; len = n; found = Nothing }
+-- ---- what is to be done
+
+-- a reply of n bytes was sent: without a fragment, or with the one that was found
+abbrev pub replied : Found → (n : ℕ) → Pending
+replied Nothing n = Replied n
+replied (Fragment k c) n = Moved k c n
+
+-- a message that is answered with 0, by what its rule makes of it; "Momentary: accepted, nothing stored"
+abbrev pub pendingDone : Display → Request → Turn → Pending
+pendingDone d (getFeature c) t = replied (t .found) (length (t .reply))
+pendingDone d (setFeature c v) t = cond (judgeSet (d .settings) c v .stored) (Store c v) Momentary
+pendingDone d timing t = replied (t .found) (length (t .reply))
+pendingDone d save t = Save
+pendingDone d (text q) t = replied (t .found) (length (t .reply))
+pendingDone d (tableRead c q) t = replied (t .found) (length (t .reply))
+pendingDone d (tableWrite c at s) t = Written (t .display .table .len)
+
+-- any other answer is a refusal, with the reply that goes with it
+abbrev pub pendingBy : Display → Request → Turn → Pending
+pendingBy d m t = cond (eqb (t .answer) done) (pendingDone d m t) (Refused (t .answer) (length (t .reply)))
+
+-- what was read
+abbrev pub pendingFor : Display → (lent table : List ℕ) → Read Request → Pending
+pendingFor d lent table (ok m) = pendingBy d m (obey d lent table m)
+pendingFor d lent table (refused k) = Refused k (length (turnOf d lent table (refused k) .reply))
+
+-- a message, with the buffers that are lent for it
+unfoldable pub pendingOf : Display → (lent table message out : List ℕ) → Pending
+pendingOf d lent table message out =
+    cond (lentWell d (length lent) (length table) (length out))
+    (pendingFor d lent table (decode requests toDisplay message))
+    (Refused wrongSize 0)
+
+-- ---- what the step comes to
+
+-- an answer without a fragment
+abbrev pub answered : Display → (answer length : ℕ) → Stepped
+answered d k n = record { display = d; answer = k; len = n; found = Nothing }
 
 -- a fragment is found where a cursor moves
 abbrev pub moved : Display → TextKind → FragmentCursor → (length : ℕ) → Stepped
 moved d k c n = record { display = withCursor k d c; answer = done; len = n; found = Fragment k c }
 
 abbrev pub stepped : Display → Pending → Stepped
-stepped d (Store c value) = kept (withSettings d (withPresent (d .settings) c value)) done 0
-stepped d Save = kept (withSettings d (saveAll (d .settings))) done 0
-stepped d (Replied k n) = kept d k n
+stepped d (Store c value) = answered (withSettings d (withPresent (d .settings) c value)) done 0
+stepped d Momentary = answered d done 0
+stepped d Save = answered (withSettings d (saveAll (d .settings))) done 0
+stepped d (Replied n) = answered d done n
 stepped d (Moved k c n) = moved d k c n
-stepped d (Written n) = kept (withTable d (unsent n)) done 0
-stepped d (Refused k n) = kept d k n
+stepped d (Written n) = answered (withTable d (unsent n)) done 0
+stepped d (Refused k n) = answered d k n
+
+-- What a function returned is what is to be done; with that done, and the two buffers as it left them, the step has its outcome.
+pub record Prepares (d : Display) (p : Pending) (o : Outcome) (r : Pending) (table out : List ℕ) : Type 0 where
+  pub pending : r ≡ p
+  pub comes : left (stepped d r) table out ≡ o

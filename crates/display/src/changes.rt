@@ -1,8 +1,9 @@
-// What a step does to the display itself. A message is judged and answered first, with a small result; the display, which is large, is then passed on once.
+// What a step does to the display itself.
+// A message is judged and answered first, with a small result; the display, which is large, is then passed on once.
 ghost use mathlib.Core.Path.{_≡_};
 ghost use Rattle.settings.specs.Settings.{withPresent, saveAll};
 ghost use Rattle.display_rules.specs.State.{unsent, withSettings, withTable, withCursor};
-ghost use Rattle.display.specs.Changes.{kept, moved};
+ghost use Rattle.display.specs.Changes.{answered, moved};
 use display_rules::Display;
 use display_rules::Found;
 use display_rules::FragmentCursor;
@@ -12,21 +13,28 @@ use display_texts::table;
 use message_rules::TextKind;
 use message_rules::answer;
 
-// What a message leaves to be done to the display: the value of an accepted Set is stored; a Save; a reply of so many bytes was sent, to a Get or, with its answer, to a Timing; a fragment was sent in such a reply; the table
-// was written, with its length afterwards; or the message was refused. A reply and a refusal, which both change nothing, are told apart because whoever copies the display then does so once for each, at the end
-// of a short way: the compiler looks back over no more than 100 stores to see that the display is still as it was passed.
+// What a message leaves to be done to the display. The answer is 0 in all cases but the last.
+// Three cases change nothing. Each has its own `return` in a step, which keeps the display's copies few (docs/PROVING-NOTES.md).
 pub enum Pending {
+    // An accepted Set of a kept code: the value is to be stored at the code.
     Store(u8, u16),
+    // An accepted Set of a momentary code: nothing is stored.
+    Momentary,
+    // A Save: every saved value is to be the present one.
     Save,
-    Replied(u8, usize),
+    // A reply of so many bytes was sent, to a Get or a Timing.
+    Replied(usize),
+    // A fragment of a text was sent, in a reply of so many bytes: the text's cursor is to be there.
     Moved(TextKind, FragmentCursor, usize),
+    // The table was written, and has so many bytes now.
     Written(u16),
+    // The message was refused with an answer number. The null message goes with it, or a reply of 0 bytes.
     Refused(u8, usize),
 }
 
-// The display as it was, with the answer number and the reply's length.
-pub(crate) fn kept(d: Display, answer: u8, length: usize) -> Stepped
-    ensures { λ r. ⌜ r ≡ kept d answer length ⌝ }
+// Returns the display with an answer number and the reply's length, and no fragment.
+pub(crate) fn answered(d: Display, answer: u8, length: usize) -> Stepped
+    ensures { λ r. ⌜ r ≡ answered d answer length ⌝ }
 {
     Stepped {
         display: d,
@@ -36,7 +44,8 @@ pub(crate) fn kept(d: Display, answer: u8, length: usize) -> Stepped
     }
 }
 
-// The present value of a code replaced. Only the array is changed apart, so that no more is copied twice.
+// Returns the display with another present value of a code.
+// Only the array is taken out and changed, so that no more is copied twice.
 pub fn stored(mut d: Display, code: u8, value: u16) -> Display
     ensures { λ r. ⌜ r ≡ withSettings d (withPresent (d .settings) code value) ⌝ }
 {
@@ -49,6 +58,7 @@ pub fn stored(mut d: Display, code: u8, value: u16) -> Display
     d
 }
 
+// Returns the display with every saved value the present one.
 pub fn saved(mut d: Display) -> Display
     ensures { λ r. ⌜ r ≡ withSettings d (saveAll (d .settings)) ⌝ }
 {
@@ -58,7 +68,7 @@ pub fn saved(mut d: Display) -> Display
     d
 }
 
-// The cursor of one of the two texts replaced.
+// Returns the display with another cursor of one of the two texts.
 pub fn with_cursor(mut d: Display, kind: TextKind, cursor: FragmentCursor) -> Display
     ensures { λ r. ⌜ r ≡ withCursor kind d cursor ⌝ }
 {
@@ -82,7 +92,7 @@ pub fn with_cursor(mut d: Display, kind: TextKind, cursor: FragmentCursor) -> Di
     }
 }
 
-// The table written: nothing of it was sent.
+// Returns the display with a table of `length` bytes of which nothing was sent.
 pub fn written(mut d: Display, length: u16) -> Display
     ensures { λ r. ⌜ r ≡ withTable d (unsent length) ⌝ }
 {
@@ -90,7 +100,7 @@ pub fn written(mut d: Display, length: u16) -> Display
     d
 }
 
-// A fragment sent.
+// Returns the display with the cursor of the fragment that was sent, in a reply of `length` bytes.
 pub(crate) fn moved(d: Display, kind: TextKind, cursor: FragmentCursor, length: usize) -> Stepped
     ensures { λ r. ⌜ r ≡ moved d kind cursor length ⌝ }
 {

@@ -11,7 +11,7 @@ ghost use Rattle.message_rules.specs.Limits.{outputRoom};
 ghost use Rattle.display_rules.specs.Limits.{tableRoom};
 ghost use Rattle.display_rules.specs.State.{fresh, emptyDisplay, startAnswer, start, declare};
 ghost use Rattle.display_rules.specs.Step.{lentSizes, turnOf, outcome, step, left};
-ghost use Rattle.display.specs.Changes.{stepped};
+ghost use Rattle.display.specs.Changes.{pendingFor, pendingOf, Prepares};
 use changes::Pending;
 use display_rules::Changed;
 use display_rules::Display;
@@ -32,19 +32,19 @@ use settings::Timing;
 
 // ---- the start and declaring
 
-// A display with an empty table, and nothing sent.
-fn fresh(settings: Settings, text: u16, size: u16) -> Display
-    ensures { λ r. ⌜ r ≡ fresh settings text size ⌝ }
+// Returns a display with a capabilities string of `text_len` bytes and an empty table, of which nothing was sent.
+fn fresh(settings: Settings, text_len: u16, size: u16) -> Display
+    ensures { λ r. ⌜ r ≡ fresh settings «text_len» size ⌝ }
 {
     Display {
         settings: settings,
-        capabilities: table::unsent(text),
+        capabilities: table::unsent(text_len),
         table: table::unsent(0),
         size: size,
     }
 }
 
-// The display of a refused start.
+// Returns the display of a refused start.
 pub fn empty() -> Display
     ensures { λ r. ⌜ r ≡ emptyDisplay ⌝ }
 {
@@ -71,7 +71,8 @@ fn start_answer(timing: u8, text_len: usize, size: u16) -> u8
     answer::DONE
 }
 
-// A display with a timing, a capabilities string and a fragment size, and no code declared yet.
+// Returns a display with a timing, a capabilities string and a fragment size, and no code declared yet.
+// A refused start gives the empty display.
 pub fn start(timing: Timing, text: &[u8], size: u16) -> Changed
     ensures { λ r. ⌜ r ≡ start timing (length (now (text .entry))) size ⌝ }
 {
@@ -92,7 +93,7 @@ pub fn start(timing: Timing, text: &[u8], size: u16) -> Changed
     }
 }
 
-// A code declared, or 18 and the same display.
+// Returns the display with a code declared, or 18 and the same display.
 pub fn declare(mut d: Display, declaration: Declaration) -> Changed
     ensures { λ r. ⌜ r ≡ declare d declaration ⌝ }
 {
@@ -108,20 +109,21 @@ pub fn declare(mut d: Display, declaration: Declaration) -> Changed
 
 // ---- the step
 
-// Whether the output, the table's buffer and the capabilities string have the sizes that a step asks for.
-fn lent_well(kept: u16, text: usize, table: usize, out: usize) -> bool
-    ensures { λ r. ⌜ r ≡ lentSizes kept text table out ⌝ }
+// Returns whether the output, the table's buffer and the capabilities string have the lengths that a step asks for.
+// `starting` is the length of the capabilities string at the start.
+fn lent_well(starting: u16, text_len: usize, table_len: usize, out_len: usize) -> bool
+    ensures { λ r. ⌜ r ≡ lentSizes starting «text_len» «table_len» «out_len» ⌝ }
 {
-    if out < OUTPUT_ROOM {
+    if out_len < OUTPUT_ROOM {
         return false;
     }
-    if table != TABLE_ROOM {
+    if table_len != TABLE_ROOM {
         return false;
     }
-    text == kept as usize
+    text_len == starting as usize
 }
 
-// What was read of the message, with buffers of the right sizes.
+// Returns what is left to be done, of what was read of a message, with buffers of the right lengths.
 fn obey(
     d: Display,
     text: &[u8],
@@ -131,12 +133,12 @@ fn obey(
     out: &mut [u8],
 ) -> Pending
     requires { ⌜ (outputRoom ≤ length (now out)) × (length (now table) ≡ tableRoom) × RequestInside (now message) request ⌝ }
-    ensures { λ r. ⌜ left (stepped d r) (now (table .exit)) (now (out .exit)) ≡ outcome (turnOf d (now (text .entry)) (now (table .entry)) (requestIn (now (message .entry)) request)) (now (out .entry)) ⌝ }
+    ensures { λ r. ⌜ (let read = requestIn (now (message .entry)) request in Prepares d (pendingFor d (now (text .entry)) (now (table .entry)) read) (outcome (turnOf d (now (text .entry)) (now (table .entry)) read) (now (out .entry))) r (now (table .exit)) (now (out .exit))) ⌝ }
 {
     match request {
         RequestRead::Get(code) => {
             let length = operation::get(d.settings, code, out);
-            Pending::Replied(answer::DONE, length)
+            Pending::Replied(length)
         }
         RequestRead::Set(code, value) => operation::set(d.settings, code, value),
         RequestRead::Timing => operation::timing(d.settings, out),
@@ -149,47 +151,52 @@ fn obey(
             operation::table_read(d.table, d.size, text, table, code, q, out)
         }
         RequestRead::TableWrite(code, at, position, n) => {
-            operation::write(d.table.len, table, code, at, message, position.0, n)
+            operation::write(d.table.len, table, code, at, message, position, n)
         }
         RequestRead::Refused(answer) => operation::refuse(answer, out),
     }
 }
 
-// All of a step but the change of the display: the message is judged, the table written and the reply built.
+// Does all of a step but the change of the display: judges the message, writes the table, builds the reply.
+// Returns what is left to be done to the display.
 pub fn prepare(d: Display, text: &[u8], table: &mut [u8], message: &[u8], out: &mut [u8]) -> Pending
-    ensures { λ r. ⌜ left (stepped d r) (now (table .exit)) (now (out .exit)) ≡ step d (now (text .entry)) (now (table .entry)) (now (message .entry)) (now (out .entry)) ⌝ }
+    ensures { λ r. ⌜ Prepares d (pendingOf d (now (text .entry)) (now (table .entry)) (now (message .entry)) (now (out .entry))) (step d (now (text .entry)) (now (table .entry)) (now (message .entry)) (now (out .entry))) r (now (table .exit)) (now (out .exit)) ⌝ }
 {
-    let kept = d.capabilities.len;
-    if lent_well(kept, text.len(), table.len(), out.len()) {
+    let starting = d.capabilities.len;
+    if lent_well(starting, text.len(), table.len(), out.len()) {
         let request = read_request(TO_DISPLAY, message);
         return obey(d, text, table, request, message, out);
     }
     Pending::Refused(answer::WRONG_SIZE, 0)
 }
 
-// One message to the display. There is a return for each case: what the cases leave is then not joined in one place first, and the display is copied once into the result.
+// Answers one message to the display, and returns the display afterwards.
+// Each case has a `return` of its own, so that the display is copied once (docs/PROVING-NOTES.md).
 pub fn step(d: Display, text: &[u8], table: &mut [u8], message: &[u8], out: &mut [u8]) -> Stepped
     ensures { λ r. ⌜ left r (now (table .exit)) (now (out .exit)) ≡ step d (now (text .entry)) (now (table .entry)) (now (message .entry)) (now (out .entry)) ⌝ }
 {
     let pending = prepare(d, text, table, message, out);
     match pending {
         Pending::Store(code, value) => {
-            return changes::kept(changes::stored(d, code, value), answer::DONE, 0);
+            return changes::answered(changes::stored(d, code, value), answer::DONE, 0);
+        }
+        Pending::Momentary => {
+            return changes::answered(d, answer::DONE, 0);
         }
         Pending::Save => {
-            return changes::kept(changes::saved(d), answer::DONE, 0);
+            return changes::answered(changes::saved(d), answer::DONE, 0);
         }
-        Pending::Replied(answer, length) => {
-            return changes::kept(d, answer, length);
+        Pending::Replied(length) => {
+            return changes::answered(d, answer::DONE, length);
         }
         Pending::Moved(kind, cursor, length) => {
             return changes::moved(d, kind, cursor, length);
         }
         Pending::Written(length) => {
-            return changes::kept(changes::written(d, length), answer::DONE, 0);
+            return changes::answered(changes::written(d, length), answer::DONE, 0);
         }
         Pending::Refused(answer, length) => {
-            return changes::kept(d, answer, length);
+            return changes::answered(d, answer, length);
         }
     }
 }

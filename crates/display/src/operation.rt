@@ -1,10 +1,12 @@
-// What a display answers to each message but a Save, and what that leaves to be done to it. The output is large enough. Each function is given those parts of the display that it needs, and speaks of every display
-// with these parts.
+// What a display answers to each message but a Save, and what that leaves to be done to it.
+// The output is large enough.
+// Each function is given those parts of the display that it needs, and speaks of every display with these parts.
 ghost use mathlib.Core.Path.{_≡_};
 ghost use mathlib.Core.List.{List};
 ghost use Prim.Native.Nat.{ℕ, _+_, _≤_};
 ghost use lib.ListN.{length, take, drop};
 ghost use Rattle.message_rules.specs.Limits.{outputRoom};
+ghost use Rattle.message_rules.specs.Message.{setFeature, timing, tableRead, tableWrite};
 ghost use Rattle.message_rules.specs.Read.{refused};
 ghost use Rattle.settings.specs.Settings.{getCode};
 ghost use Rattle.display_rules.specs.State.{textState};
@@ -12,9 +14,9 @@ ghost use Rattle.display_rules.specs.Turn.{bytesOf, featureReply, setTurn, timi
 ghost use Rattle.display_rules.specs.Limits.{tableRoom};
 ghost use Rattle.display_rules.specs.Fragments.{readTurn, tableReadTurn};
 ghost use Rattle.display_rules.specs.Table.{tableWriteTurn};
-ghost use Rattle.display_rules.specs.Step.{turnOf, outcome, left};
+ghost use Rattle.display_rules.specs.Step.{turnOf, outcome};
 ghost use Rattle.display_rules.specs.declared.Display.{Display};
-ghost use Rattle.display.specs.Changes.{stepped};
+ghost use Rattle.display.specs.Changes.{replied, pendingBy, pendingFor, Prepares};
 ghost use Rattle.display.specs.Send.{Sent};
 use crate::changes::Pending;
 use crate::send;
@@ -24,6 +26,7 @@ use display_texts::fragments;
 use display_texts::table;
 use message_builder::Built;
 use message_builder::reply;
+use message_rules::Position;
 use message_rules::TABLE_CODE;
 use message_rules::TO_HOST;
 use message_rules::TextKind;
@@ -32,7 +35,7 @@ use message_rules::answer;
 use message_rules::limits::MOST_FRAGMENT;
 use settings::Settings;
 
-// The length of the reply to a Get.
+// Answers a Get, and returns the length of the reply.
 pub(crate) fn get(s: Settings, code: u8, out: &mut [u8]) -> usize
     requires { ⌜ outputRoom ≤ length (now out) ⌝ }
     ensures { λ r. ⌜ Sent (bytesOf (featureReply (getCode s code))) (now (out .entry)) (now (out .exit)) r ⌝ }
@@ -40,30 +43,34 @@ pub(crate) fn get(s: Settings, code: u8, out: &mut [u8]) -> usize
     send::feature(settings::get(s, code), out)
 }
 
-// A Set is judged by the settings. The value of an accepted one is still to be stored.
+// Judges a Set. The value of an accepted one is still to be stored, unless the code is momentary.
 pub(crate) fn set(s: Settings, code: u8, value: u16) -> Pending
-    ensures { λ r. ⌜ ((d : Display) (table out : List ℕ) → d .settings ≡ s → left (stepped d r) table out ≡ outcome (setTurn d table code value) out) ⌝ }
+    ensures { λ r. ⌜ ((d : Display) (table out : List ℕ) → d .settings ≡ s → Prepares d (pendingBy d (setFeature code value) (setTurn d table code value)) (outcome (setTurn d table code value) out) r table out) ⌝ }
 {
     let judgement = settings::judge_set(s, code, value);
     if judgement.stored {
         return Pending::Store(code, value);
     }
+    if judgement.answer == answer::DONE {
+        return Pending::Momentary;
+    }
     Pending::Refused(judgement.answer, 0)
 }
 
+// Answers a Timing.
 // The builder refuses (7) a timing with a reserved bit set, which no start lets in.
 pub(crate) fn timing(s: Settings, out: &mut [u8]) -> Pending
     requires { ⌜ outputRoom ≤ length (now out) ⌝ }
-    ensures { λ r. ⌜ ((d : Display) (table : List ℕ) → d .settings ≡ s → left (stepped d r) table (now (out .exit)) ≡ outcome (timingTurn d table) (now (out .entry))) ⌝ }
+    ensures { λ r. ⌜ ((d : Display) (table : List ℕ) → d .settings ≡ s → Prepares d (pendingBy d timing (timingTurn d table)) (outcome (timingTurn d table) (now (out .entry))) r table (now (out .exit))) ⌝ }
 {
     let built = reply::build_timing_reply(TO_HOST, s.status, s.horizontal, s.vertical, out);
     match built {
-        Built::Done(n) => Pending::Replied(answer::DONE, n),
-        Built::Refused(answer) => Pending::Replied(answer, 0),
+        Built::Done(n) => Pending::Replied(n),
+        Built::Refused(answer) => Pending::Refused(answer, 0),
     }
 }
 
-// A read of one of the two texts: its next fragment is copied into the reply.
+// Answers a read of one of the two texts: its next fragment is copied into the reply.
 pub(crate) fn read<'a>(
     kind: TextKind,
     state: TextState,
@@ -74,7 +81,7 @@ pub(crate) fn read<'a>(
     out: &mut [u8],
 ) -> Pending
     requires { ⌜ outputRoom ≤ length (now out) ⌝ }
-    ensures { λ r. ⌜ ((d : Display) → textState kind d ≡ state → d .size ≡ most → left (stepped d r) (now (table .entry)) (now (out .exit)) ≡ outcome (readTurn kind d (now (text .entry)) (now (table .entry)) (q .0)) (now (out .entry))) ⌝ }
+    ensures { λ r. ⌜ ((d : Display) → textState kind d ≡ state → d .size ≡ most → let turn = readTurn kind d (now (text .entry)) (now (table .entry)) (q .0) in Prepares d (replied (turn .found) (length (turn .reply))) (outcome turn (now (out .entry))) r (now (table .entry)) (now (out .exit))) ⌝ }
 {
     let size = fragments::lesser(most, MOST_FRAGMENT as u16);
     let cursor = fragments::next_cursor(size, state, q);
@@ -84,6 +91,7 @@ pub(crate) fn read<'a>(
     Pending::Moved(kind, cursor, length)
 }
 
+// Answers a read of the table: 8 and the null message for another code than F4.
 pub(crate) fn table_read<'a>(
     state: TextState,
     most: u16,
@@ -94,7 +102,7 @@ pub(crate) fn table_read<'a>(
     out: &mut [u8],
 ) -> Pending
     requires { ⌜ outputRoom ≤ length (now out) ⌝ }
-    ensures { λ r. ⌜ ((d : Display) → d .table ≡ state → d .size ≡ most → left (stepped d r) (now (table .entry)) (now (out .exit)) ≡ outcome (tableReadTurn d (now (text .entry)) (now (table .entry)) code (q .0)) (now (out .entry))) ⌝ }
+    ensures { λ r. ⌜ ((d : Display) → d .table ≡ state → d .size ≡ most → let turn = tableReadTurn d (now (text .entry)) (now (table .entry)) code (q .0) in Prepares d (pendingBy d (tableRead code (q .0)) turn) (outcome turn (now (out .entry))) r (now (table .entry)) (now (out .exit))) ⌝ }
 {
     if code != TABLE_CODE {
         return Pending::Refused(answer::CODE_NOT_ALLOWED, send::null(out));
@@ -102,20 +110,22 @@ pub(crate) fn table_read<'a>(
     read(TextKind::Table, state, most, text, table, q, out)
 }
 
-// A write to the table, of `old` bytes. The data are the n bytes of the message from a number on.
+// Answers a write to the table, which has `old` bytes.
+// The data are the n bytes of the message from a position on.
 pub(crate) fn write(
     old: u16,
     table: &mut [u8],
     code: u8,
     at: TextOffset,
     message: &[u8],
-    from: usize,
+    from: Position,
     n: usize,
 ) -> Pending
-    requires { ⌜ (length (now table) ≡ tableRoom) × (from + n ≤ length (now message)) ⌝ }
-    ensures { λ r. ⌜ ((d : Display) (out : List ℕ) → d .table .len ≡ old → left (stepped d r) (now (table .exit)) out ≡ outcome (tableWriteTurn d (now (table .entry)) code (at .0) (take n (drop from (now (message .entry))))) out) ⌝ }
+    requires { ⌜ (length (now table) ≡ tableRoom) × (from .0 + n ≤ length (now message)) ⌝ }
+    ensures { λ r. ⌜ ((d : Display) (out : List ℕ) → d .table .len ≡ old → let s = take n (drop (from .0) (now (message .entry))) in Prepares d (pendingBy d (tableWrite code (at .0) s) (tableWriteTurn d (now (table .entry)) code (at .0) s)) (outcome (tableWriteTurn d (now (table .entry)) code (at .0) s) out) r (now (table .exit)) out) ⌝ }
 {
-    let data = &message[from..from + n];
+    let start = from.0;
+    let data = &message[start..start + n];
     let writing = table::write(old, table, code, at, data);
     if writing.answer == answer::DONE {
         return Pending::Written(writing.len);
@@ -123,10 +133,10 @@ pub(crate) fn write(
     Pending::Refused(writing.answer, 0)
 }
 
-// A message that the reader refused: on 6 the null message is sent.
+// Answers a message that the reader refused: on 6 the null message is sent.
 pub(crate) fn refuse(answer: u8, out: &mut [u8]) -> Pending
     requires { ⌜ outputRoom ≤ length (now out) ⌝ }
-    ensures { λ r. ⌜ ((d : Display) (text table : List ℕ) → left (stepped d r) table (now (out .exit)) ≡ outcome (turnOf d text table (refused answer)) (now (out .entry))) ⌝ }
+    ensures { λ r. ⌜ ((d : Display) (text table : List ℕ) → Prepares d (pendingFor d text table (refused answer)) (outcome (turnOf d text table (refused answer)) (now (out .entry))) r table (now (out .exit))) ⌝ }
 {
     let mut length = 0;
     if answer == answer::UNKNOWN_COMMAND {

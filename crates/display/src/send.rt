@@ -1,4 +1,4 @@
-// Replies put into the output, which a step has found large enough. Each function returns the reply's length.
+// Puts replies into the output, which a step has found large enough. Each function returns the reply's length.
 ghost use mathlib.Core.Path.{_≡_};
 ghost use Prim.Native.Nat.{_≤_};
 ghost use lib.ListN.{length};
@@ -14,7 +14,7 @@ use message_rules::TO_HOST;
 use message_rules::TextKind;
 use settings::Feature;
 
-// The length of what was built.
+// Returns the length of what was built.
 pub(crate) fn length_of(built: Built) -> usize
     ensures { λ r. ⌜ r ≡ builtLength built ⌝ }
 {
@@ -24,6 +24,7 @@ pub(crate) fn length_of(built: Built) -> usize
     }
 }
 
+// Sends the null message.
 pub(crate) fn null(out: &mut [u8]) -> usize
     requires { ⌜ outputRoom ≤ length (now out) ⌝ }
     ensures { λ r. ⌜ Sent (messages.null messages.toHost) (now (out .entry)) (now (out .exit)) r ⌝ }
@@ -31,6 +32,7 @@ pub(crate) fn null(out: &mut [u8]) -> usize
     length_of(reply::build_null(out))
 }
 
+// Sends a Value reply.
 pub(crate) fn feature(v: Feature, out: &mut [u8]) -> usize
     requires { ⌜ (outputRoom ≤ length (now out)) × (v .result ≤ 1) × (v .kind ≤ 1) ⌝ }
     ensures { λ r. ⌜ Sent (bytesOf (featureReply v)) (now (out .entry)) (now (out .exit)) r ⌝ }
@@ -39,6 +41,7 @@ pub(crate) fn feature(v: Feature, out: &mut [u8]) -> usize
     length_of(built)
 }
 
+// Sends the bytes of a fragment of one of the two texts.
 pub(crate) fn fragment(kind: TextKind, c: FragmentCursor, bytes: &[u8], out: &mut [u8]) -> usize
     requires { ⌜ (outputRoom ≤ length (now out)) × (length (now bytes) ≤ mostFragment) ⌝ }
     ensures { λ r. ⌜ Sent (bytesOf (fragmentReply kind c (now (bytes .entry)))) (now (out .entry)) (now (out .exit)) r ⌝ }

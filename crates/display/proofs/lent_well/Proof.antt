@@ -7,13 +7,13 @@ use Rattle.display.proofs.lent_well.Statement.{statement}
 use Rattle.display.proofs.lent_well.Tie as tie
 
 returns : tie.Need-returns
-returns c = rw (lt-leb outputRoom (c .before .args .out) (omega arith))
+returns c = rw (lt-leb outputRoom (c .before .args .out-len) (omega arith))
 
 returns-2 : tie.Need-returns-2
-returns-2 c = rw (le-leb outputRoom (c .before .before .args .out) (omega arith), ne-eqb (c .before .before .args .table) tableRoom (c .if2 .taken))
+returns-2 c = rw (le-leb outputRoom (c .before .before .args .out-len) (omega arith), ne-eqb (c .before .before .args .table-len) tableRoom (c .if2 .taken))
 
 returns-3 : tie.Need-returns-3
-returns-3 c = rw (le-leb outputRoom (c .before .before .args .out) (omega arith), eq-eqb (c .before .before .args .table) tableRoom (omega arith))
+returns-3 c = rw (le-leb outputRoom (c .before .before .args .out-len) (omega arith), eq-eqb (c .before .before .args .table-len) tableRoom (omega arith))
 
 pub lent-well-spec : {M : Type 1} → statement M
 lent-well-spec = tie.close (tie.spec returns returns-2 returns-3)

@@ -1,6 +1,7 @@
 -- `display::obey` meets its contract. Each arm of the match is the definition's case of what was read.
 use mathlib.Core.Path.{refl}
 use Rattle.display_rules.specs.Turn.{getTurn, saveTurn}
+use Rattle.display_rules.specs.Fragments.{readTurn}
 use borrow.Author.Needs.{needs}
 use Rattle.display.proofs.obey.Statement.{statement}
 use Rattle.display.proofs.obey.Tie as tie
@@ -55,7 +56,10 @@ same-length c = search needs
 
 returns : tie.Need-returns
 unfolding getTurn
-returns c = rw (c .before .before .before .before .before .request .given .1, c .before .before .get .ensures .counted, c .before .before .get .ensures .leaves)
+returns c =
+    let read = c .before .before .before .before .before .request .given .1 in
+    let sent = c .before .before .get .ensures in
+    record { pending = rw (read, sent .counted); comes = rw (read, sent .counted, sent .leaves) }
 
 returns-2 : tie.Need-returns-2
 returns-2 c = rw (c .before .before .request2 .given .1) (c .set .ensures (c .before .before .before .before .before .before .before .before .args .d) _ _ refl)
@@ -68,7 +72,7 @@ returns-3 c = rw (c .before .before .before .before .enum-told .given .1) (c .be
 
 returns-4 : tie.Need-returns-4
 unfolding saveTurn
-returns-4 c = rw (c .enum-told2 .given .1)
+returns-4 c = record { pending = rw (c .enum-told2 .given .1); comes = rw (c .enum-told2 .given .1) }
 
 same-length-3 : tie.Need-same-length-3
 same-length-3 c = search needs
@@ -77,6 +81,7 @@ same-length-4 : tie.Need-same-length-4
 same-length-4 c = search needs
 
 returns-5 : tie.Need-returns-5
+unfolding readTurn
 returns-5 c = rw (c .before .before .before .before .before .before .request3 .given .1) (c .before .before .read .ensures (c .before .before .before .before .before .before .before .before .before .before .before .before .args .d) refl refl)
 
 same-length-5 : tie.Need-same-length-5

@@ -3,6 +3,7 @@ use mathlib.Core.Path.{sym, _∙_}
 use lib.ListN.{length}
 use Rattle.display_rules.specs.Step.{turn, step}
 use Rattle.display_rules.proofs.Tests.{lent-sizes}
+use Rattle.display.specs.Changes.{pendingOf}
 use borrow.Author.Needs.{needs}
 use Rattle.display.proofs.prepare.Statement.{statement}
 use Rattle.display.proofs.prepare.Tie as tie
@@ -26,12 +27,12 @@ same-length-2 : tie.Need-same-length-2
 same-length-2 c = search needs
 
 returns : tie.Need-returns
-unfolding step turn
+unfolding step turn pendingOf
 returns c = rw (sym (c .before .before .before .before .before .before .before .before .before .lent-well .ensures) ∙ c .before .before .before .before .before .before .before .before .if1 .taken, ← c .before .before .before .before .before .before .before .read-request .ensures .means) (c .before .before .before .before .obey .ensures)
 
 returns-2 : tie.Need-returns-2
-unfolding step turn
-returns-2 c = rw (sym (c .before .lent-well .ensures) ∙ c .if1 .left)
+unfolding step turn pendingOf
+returns-2 c = let wrong = sym (c .before .lent-well .ensures) ∙ c .if1 .left in record { pending = rw wrong; comes = rw wrong }
 
 pub prepare-spec : {M : Type 1} → statement M
 prepare-spec =

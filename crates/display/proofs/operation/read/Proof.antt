@@ -32,7 +32,9 @@ unfolding readTurn
 returns c =
     let a = c .before .before .before .before .before .before .before .before .before .before .args in
     let e : c .before .before .before .before .before .next-cursor .result ≡ nextCursor (lesser (a .most) mostFragment) (a .state) (a .q .0) = rw (c .before .before .before .before .before .before .lesser .ensures) at (c .before .before .before .before .before .next-cursor .ensures) in
-    λ d state most. rw (state, most, ← e, c .before .before .fragment .ensures .counted, c .before .before .fragment .ensures .leaves, c .before .before .before .before .handed-back .ensures)
+    let sent = c .before .before .fragment .ensures in
+    let handed = c .before .before .before .before .handed-back .ensures in
+    λ d state most. record { pending = rw (state, most, ← e, sent .counted, handed); comes = rw (state, most, ← e, sent .counted, sent .leaves, handed) }
 
 pub read-spec : {M : Type 1} → statement M
 read-spec =

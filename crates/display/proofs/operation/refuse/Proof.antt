@@ -13,10 +13,15 @@ same-length : tie.Need-same-length
 same-length c = search needs
 
 returns : tie.Need-returns
-returns c = λ d text table. rw (eq-eqb (c .before .before .before .before .before .before .args .answer) unknownCommand (omega arith), c .before .before .null .ensures .counted, c .before .before .null .ensures .leaves)
+returns c =
+    let unknown = eq-eqb (c .before .before .before .before .before .before .args .answer) unknownCommand (omega arith) in
+    let null = c .before .before .null .ensures in
+    λ d text table. record { pending = rw (unknown, null .counted); comes = rw (unknown, null .counted, null .leaves) }
 
 returns-2 : tie.Need-returns-2
-returns-2 c = λ d text table. rw (ne-eqb (c .before .before .args .answer) unknownCommand (c .if1 .left))
+returns-2 c =
+    let other = ne-eqb (c .before .before .args .answer) unknownCommand (c .if1 .left) in
+    λ d text table. record { pending = rw other; comes = rw other }
 
 pub refuse-spec : {M : Type 1} → statement M
 refuse-spec = tie.close (tie.spec null-requires same-length returns returns-2)

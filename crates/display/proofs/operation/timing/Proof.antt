@@ -21,7 +21,7 @@ returns : tie.Need-returns
 unfolding timingTurn
 returns c =
     let b = built-done (c .before .before .before .before .before .build-timing-reply .ensures) (c .before .before .before .before .before .before .before .before .pre) _ (c .before .built .given .1) in
-    λ d table same. rw (same, b .0, b .1 .counted, b .1 .leaves)
+    λ d table same. record { pending = rw (same, b .0, b .1 .counted); comes = rw (same, b .0, b .1 .counted, b .1 .leaves) }
 
 same-length-2 : tie.Need-same-length-2
 same-length-2 c = search needs
@@ -30,7 +30,7 @@ returns-2 : tie.Need-returns-2
 unfolding timingTurn
 returns-2 c =
     let b = built-refused (c .before .before .before .before .before .build-timing-reply .ensures) (c .before .before .before .before .before .before .before .before .pre) _ (c .before .built2 .given .1) in
-    λ d table same. rw (same, b .0, b .1, b .2)
+    λ d table same. record { pending = rw (same, b .0, b .1); comes = rw (same, b .0, b .1, b .2) }
 
 pub timing-spec : {M : Type 1} → statement M
 timing-spec =

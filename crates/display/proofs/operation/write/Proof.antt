@@ -39,7 +39,8 @@ returns c =
     let w = rw part-length at (c .before .before .before .before .write .ensures) in
     let answers = w .answers ∙ full _ _ _ _ _ (c .before .before .before .before .before .before .before .before .before .pre .0) in
     let done = c .if1 .taken in
-    λ d out same. rw (same, ← answers, done, rw done at (w .lengthens), rw done at (w .leaves))
+    let length = rw done at (w .lengthens) in
+    λ d out same. record { pending = rw (same, ← answers, done, length); comes = rw (same, ← answers, done, length, rw done at (w .leaves)) }
 
 same-length-2 : tie.Need-same-length-2
 same-length-2 c = search needs
@@ -50,7 +51,7 @@ returns-2 c =
     let w = rw part-length at (c .before .before .before .before .write .ensures) in
     let answers = w .answers ∙ full _ _ _ _ _ (c .before .before .before .before .before .before .before .before .before .pre .0) in
     let refused = ne-eqb _ _ (c .if1 .left) in
-    λ d out same. rw (same, ← answers, refused, rw refused at (w .leaves))
+    λ d out same. record { pending = rw (same, ← answers, refused, refused); comes = rw (same, ← answers, refused, rw refused at (w .leaves)) }
 
 pub write-spec : {M : Type 1} → statement M
 write-spec =

@@ -37,6 +37,26 @@ loaded with 101: answer 9 at 0
 loaded with 70: answer 0 at 7
 ";
 
+const CONTROLLER_WRITES: &str = "  read: 6E 80 BE
+get brightness
+probe
+  read: 6E 88 02 00 10 00 00 64 00 32 F2 00 00
+  read: 6E 80 BE 00 00
+set brightness to 100
+  panel: code 10 is 100
+  read: 6E 80 BE
+degauss
+  panel: code 01 is 1
+write the list
+  panel: A
+a command that is not in the table
+  read: 6E 80 BE
+save
+power-up
+get brightness
+  read: 6E 88 02 00 10 00 00 64 00 64 A4
+";
+
 const HOST: &str = "target/staticlib/libddcci.a";
 const DISPLAY: &str = "target/staticlib/libddcci_display.a";
 
@@ -72,6 +92,14 @@ fn the_display_compiles_and_answers_as_the_papers_say() {
     assert_eq!(documented("display"), DISPLAY_WRITES);
     for standard in [C99, C17, CPP] {
         assert_eq!(written_by(&compiled_as(standard, &c_file("display.c"), &[DISPLAY])), DISPLAY_WRITES);
+    }
+}
+
+#[test]
+fn the_controller_answers_an_i2c_host() {
+    assert_eq!(documented("controller"), CONTROLLER_WRITES);
+    for standard in [C99, C17, CPP] {
+        assert_eq!(written_by(&compiled_as(standard, &c_file("controller.c"), &[DISPLAY])), CONTROLLER_WRITES);
     }
 }
 

@@ -1,5 +1,5 @@
--- A computed list of exchanges in which each kind of exchange occurs: what demand 3 supposes can be met; and that no fewer exchanges than it says are enough.
--- Refuted.antt uses the first exchanges.
+-- A computed list of exchanges in which each kind of exchange occurs: what demand 3 supposes can be met; that it is needed; and that no fewer exchanges than it says are enough.
+-- Refuted.antt uses the exchanges.
 -- Assumes nothing.
 use Prim.Native.Nat.{ℕ}
 use mathlib.Core.Path.{_≡_, refl, ap, sym, _∙_}
@@ -22,7 +22,7 @@ use Rattle.transfer_rules.specs.declared.State.the-variants.{Done}
 use Rattle.transfer_rules.specs.Fragment.{requestMessage, fragmentFor, fragmentMessage, readReply, fragmentIn, fragmentOf}
 use Rattle.transfer_rules.specs.Conforming.{Cursor}
 use Rattle.transfer_rules.specs.Exchange.{rules, World, Exchange, ignores, acts, Begins, start, after, afterAll, Course, ended, answered, corrupted, closed}
-use Rattle.transfer_rules.specs.Coverage.{Tight}
+use Rattle.transfer_rules.specs.Coverage.{Needed, Tight}
 use Rattle.transfer_rules.proofs.Messages.{read-fragment, fragment-in, same-fragment, never-read}
 
 -- ---- bytes that begin with no fragment wanted
@@ -196,6 +196,39 @@ table-course =
 table-ends : afterAll rules u₀ (foreign ∷ whole ∷ table-final ∷ []) .transfer ≡ record { kind = Table; state = Done; reached = record { 0 = 3 }; size = 5; budget = 9; count = 3 }
 unfolding after decode bodyRead frameAnswer agrees plain xorAll decodeBody byRow
 table-ends = refl
+
+-- ---- what is supposed is needed: the display sends "(10)", and the line turns over bit 0 of two bytes, which leaves their exclusive or as it was: "(01)" is read
+
+abbrev ten : List ℕ
+ten = 0x28 ∷ 0x31 ∷ 0x30 ∷ 0x29 ∷ []
+
+abbrev ten-sent : List ℕ
+ten-sent = 0x6E ∷ 0x87 ∷ 0xE3 ∷ 0x00 ∷ 0x00 ∷ 0x28 ∷ 0x31 ∷ 0x30 ∷ 0x29 ∷ 0x5A ∷ []
+
+abbrev ten-end : List ℕ
+ten-end = 0x6E ∷ 0x83 ∷ 0xE3 ∷ 0x00 ∷ 0x04 ∷ 0x5A ∷ []
+
+abbrev two-flips : Exchange
+two-flips =
+    record { output = replicate 38 0; turn = acts 0 (at 0 4) ten-sent; came = 0x6E ∷ 0x87 ∷ 0xE3 ∷ 0x00 ∷ 0x00 ∷ 0x28 ∷ 0x30 ∷ 0x31 ∷ 0x29 ∷ 0x5A ∷ [] }
+
+abbrev ten-final : Exchange
+ten-final = record { output = replicate 38 0; turn = acts 4 (at 4 0) ten-end; came = ten-end }
+
+pub needed : Needed rules
+unfolding after decode bodyRead frameAnswer agrees plain xorAll decodeBody byRow requestMessage fragmentMessage frame
+needed =
+    record {
+      setup = record { kind = Capabilities; text = ten; buffer = buffer; budget = 9; cursor = cursor };
+      supposed = record { bytes = all-bytes _ refl; small = omega arith; fits = omega arith; allowed = omega arith };
+      exchanges = two-flips ∷ ten-final ∷ [];
+      follows = (
+        record { bytes = all-bytes _ refl; lawful = (refl, record { moves = (refl, omega arith); replies = refl }) },
+        (record { bytes = all-bytes _ refl; lawful = (refl, record { moves = (refl, omega arith); replies = refl }) }, tt),
+      );
+      ends = refl;
+      another = λ e. let b : _≡_ {A = ℕ} 0x30 0x31 = ap (λ (s : List ℕ). getD s 1 0) e in omega arith;
+    }
 
 -- ---- no fewer than L + 1 + k exchanges are enough: the display sends one byte at a time, and the empty fragment is not asked for
 

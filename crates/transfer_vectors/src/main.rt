@@ -1,5 +1,7 @@
-// Transfers over a simulated line: budgets of L and L + 1, fragments of 1, 31, 32 and mixed lengths, with and without noise, held to what demand 3 says of them.
+// Transfers over a simulated line: budgets of L and L + 1, fragments of 1, 31, 32 and mixed lengths, with and without noise,
+// by value and in place, held to what demand 3 says of them; and a line that breaks what demand 3 supposes.
 mod display;
+mod flips;
 mod line;
 mod run;
 
@@ -74,6 +76,7 @@ fn noise() {
         b"noisy line, fragments of mixed lengths",
         run::whole(TextKind::Table, 200, 300, 0, 3),
     );
+    report(b"the same, each call in place", run::in_place(200, 300, 3));
     report(
         b"noisy line, buffer too small",
         run::whole(TextKind::Table, 250, 300, 0, 3),
@@ -84,4 +87,5 @@ fn main() {
     budgets();
     sizes();
     noise();
+    flips::two_flips();
 }

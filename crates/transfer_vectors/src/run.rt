@@ -5,6 +5,7 @@ use crate::line;
 use crate::line::Frame;
 use crate::line::ROOM;
 use message_rules::TextKind;
+use transfer_rules::Received;
 use transfer_rules::State;
 use transfer_rules::Transfer;
 
@@ -33,11 +34,13 @@ struct World {
     seed: u64,
 }
 
-// What is run: a text of a kind, in fragments of a fixed length (0: mixed), over a line with this noise.
+// What is run: a text of a kind, in fragments of a fixed length (0: mixed), over a line with this noise;
+// and whether the transfer is moved on in place.
 struct Setup {
     kind: TextKind,
     fixed: usize,
     noise: u64,
+    in_place: bool,
 }
 
 pub(crate) fn write_state(state: State) {
@@ -78,11 +81,24 @@ fn turn(mut w: World, s: Setup, text: &[u8]) -> World {
     w
 }
 
-fn receive(mut w: World, reply: Frame) -> World {
+// Returns what a transfer receives, by the entry in place or by value.
+fn moved_on(t: Transfer, buffer: &mut [u8], reply: &[u8], in_place: bool) -> Received {
+    if in_place {
+        return transfer_in_place::receive_by_place(t, buffer, reply);
+    }
+    transfer::receive(t, buffer, reply)
+}
+
+fn receive(mut w: World, reply: Frame, in_place: bool) -> World {
     let before = w.transfer;
     let bytes = reply.bytes;
     let mut buffer = w.buffer;
-    let received = transfer::receive(before, &mut buffer, line::front(&bytes, reply.len));
+    let received = moved_on(
+        before,
+        &mut buffer,
+        line::front(&bytes, reply.len),
+        in_place,
+    );
     let after = received.transfer;
     w.transfer = after;
     w.buffer = buffer;
@@ -94,7 +110,7 @@ fn exchange(mut w: World, s: Setup, text: &[u8]) -> World {
     w = turn(w, s, text);
     let reply = w.reply;
     w.seed = line::next(w.seed);
-    receive(w, reply)
+    receive(w, reply, s.in_place)
 }
 
 // Whether the buffer begins with the text's first bytes, so many as were reached, and is otherwise as it was.
@@ -163,7 +179,7 @@ fn list(s: Setup, text: &[u8], budget: usize) -> Ended {
     judged(exchanges(begin(kind, budget), s, text), text)
 }
 
-// A transfer of a text of so many bytes, in fragments of a fixed length (0: mixed), over a line with this noise.
+// Returns how a transfer ends of a text of so many bytes, in fragments of a fixed length (0: mixed), over a line with this noise.
 pub(crate) fn whole(
     kind: TextKind,
     length: usize,
@@ -177,6 +193,20 @@ pub(crate) fn whole(
         kind: kind,
         fixed: fixed,
         noise: noise,
+        in_place: false,
+    };
+    list(s, line::front(&letters, length), budget)
+}
+
+// Returns the same of a table, in fragments of mixed lengths, each call by the entry in place.
+pub(crate) fn in_place(length: usize, budget: usize, noise: u64) -> Ended {
+    let mut letters = [0u8; 256];
+    fill(&mut letters);
+    let s = Setup {
+        kind: TextKind::Table,
+        fixed: 0,
+        noise: noise,
+        in_place: true,
     };
     list(s, line::front(&letters, length), budget)
 }

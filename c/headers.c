@@ -24,6 +24,17 @@ static ddcci_display show(ddcci_display display, const uint8_t *message, size_t 
     return step.display;
 }
 
+/* Writes how many codes are declared, and which. */
+static void show_declared(ddcci_display display) {
+    uint16_t code = ddcci_display_next_declared(display, 0);
+    printf("%u codes declared:", ddcci_display_declared_count(display));
+    while (code != DDCCI_DISPLAY_NO_CODE) {
+        printf(" %02X", code);
+        code = ddcci_display_next_declared(display, (uint16_t)(code + 1));
+    }
+    printf("\n");
+}
+
 static void show_messages(void) {
     static const ddcci_display_timing timing = {2, 13340, 6000};
     static const ddcci_display_declaration brightness = {0x10, 1, 1, 0, 1, 100, 50};
@@ -43,6 +54,7 @@ static void show_messages(void) {
     display = show(display, out, ddcci_build_table_read(DDCCI_TABLE_CODE, 0, out, sizeof out).length);
     display = show(display, out, 0);
     printf("brightness %u, list %u bytes\n", display.settings.present[0x10], display.table.length);
+    show_declared(display);
 }
 
 /* A message of 39 bytes whose first 38 are a right one: with a byte more room than the longest it is refused. */

@@ -9,7 +9,10 @@
  *
  * The display is a struct by value: a call is given the display as the last one left it. A call takes stack,
  * here measured on x86-64 with the copies that its caller makes: a start 1.8 KB, a declaration 7.0 KB, a step
- * 4.7 KB, writing a profile 3.5 KB, loading one 7.0 KB. */
+ * 4.7 KB, writing a profile 3.5 KB, loading one 7.0 KB.
+ *
+ * Behind an I2C slave: its address is 37, and is not in the slices. One write is one message, from 51 on. A
+ * read starts with 6E, which the reply and the null message begin with; any bytes may follow them. */
 #ifndef PANEKNOLL_DDCCI_DISPLAY_H
 #define PANEKNOLL_DDCCI_DISPLAY_H
 
@@ -26,6 +29,8 @@ extern "C" {
 #define DDCCI_DISPLAY_MESSAGE_ROOM (DDCCI_LONGEST_MESSAGE + 1)
 /* The bytes of the longest profile: 7 for each code but F4. */
 #define DDCCI_DISPLAY_LONGEST_PROFILE 1785
+/* What ddcci_display_next_declared returns where no code is left. */
+#define DDCCI_DISPLAY_NO_CODE 256
 /* The null message, as an initializer. A host that reads gets these bytes where no reply is due: where the
  * last step's reply length is 0, and once its reply was given. */
 #define DDCCI_DISPLAY_NULL_MESSAGE {0x6E, 0x80, 0xBE}
@@ -77,7 +82,8 @@ typedef struct {
     uint16_t fragment_size;
 } ddcci_display;
 
-/* What is declared of a code. The kind is its type: 0 kept, 1 momentary. */
+/* What is declared of a code. The kind is its type: 0 kept, 1 momentary. A momentary code is best write-only:
+ * ddcutil reads back what it has set, and a momentary value is not stored. */
 typedef struct {
     uint8_t code;
     ddcci_display_bool readable;
@@ -145,17 +151,24 @@ DDCCI_ASSERT_SIZE(ddcci_display_loaded, 1736);
 
 /* Returns a display with a timing, a capabilities string of at most 4,096 bytes and fragments of 1 to 32
  * bytes, and no code declared yet; or an empty display and 18 for the timing, 11 for the string, 18 for the
- * fragment size, in that order. */
+ * fragment size, in that order. ddcutil 1.4.1 aborts on a string over 2,046 bytes. */
 ddcci_display_changed ddcci_display_start(ddcci_display_timing timing, const uint8_t *text,
                                           size_t text_length, uint16_t fragment_size);
 
 /* Returns the display with a code declared; or 18 and the same display. */
 ddcci_display_changed ddcci_display_declare(ddcci_display display, ddcci_display_declaration declaration);
 
+/* Returns how many codes are declared. */
+uint16_t ddcci_display_declared_count(ddcci_display display);
+
+/* Returns the least declared code from the given number on, or DDCCI_DISPLAY_NO_CODE. */
+uint16_t ddcci_display_next_declared(ddcci_display display, uint16_t from);
+
 /* Answers one message. The capabilities string has its starting length, the table's buffer
  * DDCCI_DISPLAY_TABLE_ROOM bytes, the output at least DDCCI_OUTPUT_ROOM. The table and the output must
  * overlap neither each other nor the message nor the capabilities string. ddcci_display_asked tells
- * afterwards what the message was for. */
+ * afterwards what the message was for. (ddcutil 1.4.1 drops the high byte of a Table write's offset, and so
+ * cannot write a list over 255 bytes.) */
 ddcci_display_stepped ddcci_display_step(ddcci_display display, const uint8_t *text, size_t text_length,
                                          uint8_t *table, size_t table_length, const uint8_t *message,
                                          size_t message_length, uint8_t *out, size_t out_length);

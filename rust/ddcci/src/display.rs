@@ -91,6 +91,35 @@ impl Display {
         Refusal::check(r.answer)
     }
 
+    /// Returns how many codes are declared.
+    pub fn declared_count(&self) -> u16 {
+        // SAFETY: the display goes by value.
+        unsafe { raw::ddcci_display_declared_count(self.0) }
+    }
+
+    /// Returns the declared codes, rising.
+    ///
+    /// ```
+    /// # use ddcci::{Declaration, Display, Timing};
+    /// # let mut display = Display::start(Timing::default(), b"", 32)?;
+    /// # for code in [0x60, 0x10] {
+    /// #     let declared = Declaration { code, readable: true, writable: true, kind: 0, continuous: true, maximum: 100, present: 50 };
+    /// #     display.declare(declared)?;
+    /// # }
+    /// assert_eq!(display.declared_codes().collect::<Vec<u8>>(), [0x10, 0x60]);
+    /// # Ok::<(), ddcci::Refusal>(())
+    /// ```
+    pub fn declared_codes(&self) -> impl Iterator<Item = u8> + '_ {
+        core::iter::successors(self.next_declared(0), |code| self.next_declared(u16::from(*code) + 1))
+    }
+
+    /// Returns the least declared code from the given number on.
+    pub fn next_declared(&self, from: u16) -> Option<u8> {
+        // SAFETY: the display goes by value.
+        let code = unsafe { raw::ddcci_display_next_declared(self.0, from) };
+        u8::try_from(code).ok()
+    }
+
     /// Answers one message.
     ///
     /// Lent are the capabilities string at its starting length, the table's buffer of [`TABLE_ROOM`] bytes as the last
@@ -157,9 +186,8 @@ impl Display {
 
 impl fmt::Debug for Display {
     fn fmt(&self, f: &mut fmt::Formatter<'_>) -> fmt::Result {
-        let declared: u32 = self.0.settings.declared.iter().map(|word| word.count_ones()).sum();
         f.debug_struct("Display")
-            .field("declared_codes", &declared)
+            .field("declared_count", &self.declared_count())
             .field("capabilities", &self.0.capabilities)
             .field("table", &self.0.table)
             .field("fragment_size", &self.0.fragment_size)

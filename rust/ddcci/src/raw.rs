@@ -207,6 +207,8 @@ extern "C" {
         fragment_size: u16,
     ) -> DisplayChanged;
     pub fn ddcci_display_declare(display: Display, declaration: Declaration) -> DisplayChanged;
+    pub fn ddcci_display_declared_count(display: Display) -> u16;
+    pub fn ddcci_display_next_declared(display: Display, from: u16) -> u16;
     pub fn ddcci_display_step(
         display: Display,
         text: *const u8,

@@ -116,6 +116,7 @@ answer 0: command E7, code F4, value 0; read: 0, E7, F4, 0
 answer 0: command E2, code F4, value 0; read: 0, E2, F4, 0
 answer 2: command 00, code 00, value 0; read: 2, 00, 00, 0
 brightness 70, list 3 bytes
+2 codes declared: 01 10
 39 bytes: answer 4; cut to 38: answer 0
 null message: answer 12
 ";

@@ -162,3 +162,27 @@ fn a_refused_start_has_a_number() {
     assert_eq!(start(0, &[b'a'; 4097], 32), 11);
     assert_eq!((start(0, TEXT, 0), start(0, TEXT, 33), start(0, &[b'a'; 4096], 32)), (18, 18, 0));
 }
+
+/// The number declared and the next declared code, of displays with none to all of the codes.
+#[test]
+fn declared_codes() {
+    let mut r = Random::new(5);
+    for round in 0..rounds(60) {
+        let mut ours = Display::start(Timing::default(), TEXT, 32).unwrap();
+        let (_, mut theirs) = slow::Display::start(slow::Timing { status: 0, horizontal: 0, vertical: 0 }, TEXT, 32);
+        for code in 0..=255 {
+            if r.percent(100 * round / rounds(59)) {
+                let (readable, writable, kind, continuous, maximum, present) = (true, true, 0, false, 9, 5);
+                let _ = ours.declare(Declaration { code, readable, writable, kind, continuous, maximum, present });
+                let same = slow_settings::Declaration { code, readable, writable, kind, continuous, maximum, present };
+                theirs.declare(same);
+            }
+        }
+        assert_eq!(usize::from(ours.declared_count()), theirs.number_declared());
+        assert_eq!(ours.declared_codes().count(), theirs.number_declared());
+        assert!(ours.declared_codes().all(|code| theirs.next_declared(code.into()) == Some(code)));
+        for from in [0..300, 65_000..65_535].into_iter().flatten() {
+            assert_eq!(ours.next_declared(from), theirs.next_declared(from), "from {from}");
+        }
+    }
+}

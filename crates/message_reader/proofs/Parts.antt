@@ -6,7 +6,7 @@ use mathlib.Core.List.{List, [], _∷_, _++_}
 use Prim.Native.Nat.{ℕ, zero, suc, _+_, _-_, _≤_, _<_}
 use native.Mathlib.Nat.{sub-zero}
 use native.Mathlib.Omega.{arith}
-use lib.Dec.{eqb, leb, ltb}
+use lib.Dec.{eqb, leb, ltb, leb·suc-suc}
 use lib.ListN.{length, getD, take, drop, length-take, length-drop}
 use lib.Seq.{drop-cons, take-suc}
 use borrow.Author.Tests.{leb-true, le-leb, lt-leb, lt-ltb, eq-eqb, ne-eqb}
@@ -15,8 +15,8 @@ use Rattle.checksum.proofs.Laws.{xorAll-closed, xorAll-closes}
 use Rattle.message_rules.specs.declared.Address.{Address}
 use Rattle.message_rules.specs.declared.Direction.{Direction}
 use Rattle.message_rules.specs.Read.{Read, ok, refused, unless, require, after, andThen}
-use Rattle.message_rules.specs.Row.{Kind, Row, Known, Unknown}
-use Rattle.message_rules.specs.Layout.{layoutOf, longest, rule, rowOf}
+use Rattle.message_rules.specs.Row.{Kind, Layout, Row, Known, Unknown}
+use Rattle.message_rules.specs.Layout.{layoutOf, least, longest, rule, rowOf}
 use Rattle.message_rules.specs.Body.{Body, split, lengthAllowed, byRow, decodeBody, emptyAnswer}
 use Rattle.message_rules.specs.Frame.{plainRow, plain, lengthByte, fits, bodyLength, bodyOf, agrees, frameAnswer}
 use Rattle.message_rules.specs.Message.{Reading, asMessage, bodyRead, decode}
@@ -146,21 +146,39 @@ module _ (d : Direction) (s : List ℕ) (long : 2 < length s) where
   unfolding plain
   plain-number some = ap (plain d) (front (bodyLength s) s some long)
 
-  by-number : (n : ℕ) → bodyLength s ≡ n → plainRow (rowOf d (getD s 2 0)) ≡ true → plain d (bodyOf s) ≡ ltb 0 n
-  by-number zero z e = plain-empty z
-  by-number (suc n) z e = plain-number (omega arith) ∙ e ∙ sym (lt-ltb 0 (suc n) (omega arith))
+  by-number : (n : ℕ) → bodyLength s ≡ n → plain d (bodyOf s) ≡ plainRow (rowOf d (getD s 2 0)) && ltb 0 n
+  by-number zero z = plain-empty z ∙ none (plainRow (rowOf d (getD s 2 0)))
+    where
+      none : (p : Bool) → false ≡ p && false
+      none true = refl
+      none false = refl
+  by-number (suc n) z = plain-number (omega arith) ∙ some (plainRow (rowOf d (getD s 2 0))) ∙ ap (λ (b : Bool). plainRow (rowOf d (getD s 2 0)) && b) (sym (lt-ltb 0 (suc n) (omega arith)))
+    where
+      some : (p : Bool) → p ≡ p && true
+      some true = refl
+      some false = refl
 
-  never-plain : (n : ℕ) → bodyLength s ≡ n → plainRow (rowOf d (getD s 2 0)) ≡ false → plain d (bodyOf s) ≡ false
-  never-plain zero z e = plain-empty z
-  never-plain (suc n) z e = plain-number (omega arith) ∙ e
+  pub plain-row : plain d (bodyOf s) ≡ plainRow (rowOf d (getD s 2 0)) && ltb 0 (bodyLength s)
+  plain-row = by-number (bodyLength s) refl
 
-  pub plain-listed : plainRow (rowOf d (getD s 2 0)) ≡ true → plain d (bodyOf s) ≡ ltb 0 (bodyLength s)
-  plain-listed = by-number (bodyLength s) refl
-
-  pub plain-other : plainRow (rowOf d (getD s 2 0)) ≡ false → plain d (bodyOf s) ≡ false
-  plain-other = never-plain (bodyLength s) refl
+-- the frame's answer where its head is right: the tail's, by the form of the number's row
+pub frame-form : (d : Direction) (a : Address) (s : List ℕ) {form p : Bool} {n r : ℕ} → headAnswer d a s ≡ 0 → form ≡ plainRow (rowOf d (getD s 2 0)) → n ≡ bodyLength s → p ≡ form && ltb 0 n → r ≡ tailAnswer a p s
+    → frameAnswer d a s ≡ r
+frame-form d a s e f h q g =
+    frame-tail d a s e
+    ∙ ap (λ (b : Bool). tailAnswer a b s) (plain-row d s (omega (arith, headed d a s e .long)) ∙ sym (q ∙ ap₂ (λ (b : Bool) (m : ℕ). b && ltb 0 m) f h))
+    ∙ sym g
 
 -- ---- `decode`, as the code comes to it
+
+-- a length behind the command number, and one with it
+behind-number : (l : Layout) (n : ℕ) → 0 < n → lengthAllowed l (n - 1) ≡ lengthRight (shapeOf l) n
+behind-number l zero h = absurd (omega arith)
+behind-number l (suc n) h =
+    let e : suc n - 1 ≡ n = omega arith in
+    let most : suc (least l + l .most) ≡ suc (least l) + l .most = omega arith in
+    ap (lengthAllowed l) e
+    ∙ ap₂ (λ (x y : Bool). x && y) (sym (leb·suc-suc (least l) n)) (sym (leb·suc-suc n (least l + l .most)) ∙ ap (leb (suc n)) most)
 
 module _ {M : Type 0} (t : Reading M) (a : Address) (s : List ℕ) where
   pub decode-frame : (frameAnswer (t .direction) a s ≡ 0 → ⊥) → decode t a s ≡ refused (frameAnswer (t .direction) a s)
@@ -199,22 +217,24 @@ module _ {M : Type 0} (t : Reading M) (a : Address) (s : List ℕ) where
         length-behind : length behind ≡ bodyLength s - 1
         length-behind = let h = framed (t .direction) a s e .inside in simp (length-take, length-drop) (omega arith)
 
-        decode-known : decode t a s ≡ cond (lengthRight (shapeOf (layoutOf c)) (bodyLength s - 1)) (bodyIn t c s) (refused 7)
+        decode-known : decode t a s ≡ cond (lengthRight (shapeOf (layoutOf c)) (bodyLength s)) (bodyIn t c s) (refused 7)
         unfolding byRow
         decode-known =
             decode-row (Known c (layoutOf c)) q
             ∙ ap (λ (n : ℕ). andThen (require (lengthAllowed (layoutOf c) n && rule c (take (layoutOf c .bytes) behind)) 7 (ok (split c (layoutOf c) behind))) (asMessage t)) length-behind
             ∙ by-length (lengthAllowed (layoutOf c) (bodyLength s - 1)) (rule c (take (layoutOf c .bytes) behind)) (split c (layoutOf c) behind)
+            ∙ ap (λ (b : Bool). cond b (bodyIn t c s) (refused 7)) (behind-number (layoutOf c) (bodyLength s) some)
 
-        pub decode-length : lengthRight (shapeOf (layoutOf c)) (bodyLength s - 1) ≡ false → decode t a s ≡ refused 7
+        pub decode-length : lengthRight (shapeOf (layoutOf c)) (bodyLength s) ≡ false → decode t a s ≡ refused 7
         decode-length w = decode-known ∙ ap (λ (b : Bool). cond b (bodyIn t c s) (refused 7)) w
 
-        pub decode-body : lengthRight (shapeOf (layoutOf c)) (bodyLength s - 1) ≡ true → decode t a s ≡ bodyIn t c s
+        pub decode-body : lengthRight (shapeOf (layoutOf c)) (bodyLength s) ≡ true → decode t a s ≡ bodyIn t c s
         decode-body w = decode-known ∙ ap (λ (b : Bool). cond b (bodyIn t c s) (refused 7)) w
 
         -- all that reading the fields asks for
-        pub readable : lengthRight (shapeOf (layoutOf c)) (bodyLength s - 1) ≡ true → Readable c s
+        pub readable : lengthRight (shapeOf (layoutOf c)) (bodyLength s) ≡ true → Readable c s
         readable w =
             let l = framed (t .direction) a s e in
             let h : Shape = shapeOf (layoutOf c) in
-            (omega (arith, l .long), l .inside, some, leb-true (h .0) (bodyLength s - 1) (and-true (leb (h .0) (bodyLength s - 1)) (leb (bodyLength s - 1) (h .0 + h .1)) w .0))
+            let enough = leb-true (h .0) (bodyLength s) (and-true (leb (h .0) (bodyLength s)) (leb (bodyLength s) (h .0 + h .1)) w .0) in
+            (omega (arith, l .long), l .inside, some, omega (arith, enough, some))

@@ -1,12 +1,13 @@
 // The frame of a message: first byte, length byte and checksum, for either direction and any pair of address bytes.
 ghost use mathlib.Core.Path.{_≡_};
 ghost use Prim.Native.Nat.{_+_, _≤_, _<_};
+ghost use mathlib.Core.Bool.{_&&_};
+ghost use lib.Dec.{ltb};
 ghost use lib.ListN.{length, getD};
 ghost use Rattle.message_rules.specs.Body.{word};
-ghost use Rattle.message_rules.specs.Frame.{bodyLength, bodyOf, fits, lengthByte, plain, frameAnswer};
+ghost use Rattle.message_rules.specs.Frame.{bodyLength, fits, lengthByte};
 ghost use Rattle.message_rules.specs.Layout.{longest};
 ghost use Rattle.message_reader.specs.Parts.{headAnswer, tailAnswer};
-use crate::table;
 use message_rules::Address;
 use message_rules::Direction;
 use message_rules::Position;
@@ -88,7 +89,7 @@ fn fits_slice(direction: Direction, n: usize, len: usize) -> bool
 
 // Returns the answer of the tests before the command number is looked at: 2, 3, and 4 for a slice that does not agree with its length byte.
 // 0 if none fails.
-fn head_answer(direction: Direction, a: Address, s: &[u8]) -> u8
+pub(crate) fn head_answer(direction: Direction, a: Address, s: &[u8]) -> u8
     ensures { λ r. ⌜ r ≡ headAnswer direction a (now (s .entry)) ⌝ }
 {
     if s.len() < 3 {
@@ -112,7 +113,7 @@ fn head_answer(direction: Direction, a: Address, s: &[u8]) -> u8
 // Returns the answer of the frame's tests that are left: 4 for the other form of length byte, then 5. 0 if none fails.
 // The last byte is compared with the checksum of those in front of it.
 // A sum that is only compared with 0 is not taken several bytes at a time in the compiled code.
-fn tail_answer(a: Address, plain: bool, s: &[u8]) -> u8
+pub(crate) fn tail_answer(a: Address, plain: bool, s: &[u8]) -> u8
     requires { ⌜ (1 < length (now s)) × (bodyLength (now s) + 3 ≤ length (now s)) ⌝ }
     ensures { λ r. ⌜ r ≡ tailAnswer a plain (now (s .entry)) ⌝ }
 {
@@ -127,25 +128,13 @@ fn tail_answer(a: Address, plain: bool, s: &[u8]) -> u8
     answer::DONE
 }
 
-// Returns whether the length byte is to be plain, by the row of the body's first byte.
+// Returns whether the length byte of a body of n bytes is to be plain, by the form that its first byte has.
 // An empty body has none, which is asked only where it matters.
-fn body_plain(direction: Direction, s: &[u8]) -> bool
-    requires { ⌜ (2 < length (now s)) × (bodyLength (now s) + 3 ≤ length (now s)) ⌝ }
-    ensures { λ r. ⌜ r ≡ plain direction (bodyOf (now (s .entry))) ⌝ }
+pub(crate) fn body_plain(form: bool, n: usize) -> bool
+    ensures { λ r. ⌜ r ≡ form && ltb 0 n ⌝ }
 {
-    if table::form_of(direction, byte_at(s, COMMAND)) {
-        return 0 < body_length(s);
+    if form {
+        return 0 < n;
     }
     false
-}
-
-// Returns the answer of a frame's tests in the papers' order: 2, 3, 4, 5. 0 if none fails.
-pub(crate) fn frame_answer(direction: Direction, a: Address, s: &[u8]) -> u8
-    ensures { λ r. ⌜ r ≡ frameAnswer direction a (now (s .entry)) ⌝ }
-{
-    let head = head_answer(direction, a, s);
-    if head != answer::DONE {
-        return head;
-    }
-    tail_answer(a, body_plain(direction, s), s)
 }

@@ -81,20 +81,26 @@ fn fields(kind: ReplyKind, s: &[u8]) -> ReplyRead
     }
 }
 
-// Returns what the tests of a reply come to in the papers' order, but those of its fields: the frame, then its body.
+// Returns what the tests of a reply come to in the papers' order, but those of its fields.
+// The frame's tests take the form of the length byte from the row, those of the body the length and the kind.
 fn tested(a: Address, s: &[u8]) -> ReplyVerdict
     ensures { λ r. ⌜ ReplyHolds a (now (s .entry)) r ⌝ }
 {
-    let refusal = frame::frame_answer(Direction::Reply, a, s);
-    if refusal != answer::DONE {
-        return ReplyVerdict::Refused(refusal);
+    let head = frame::head_answer(Direction::Reply, a, s);
+    if head != answer::DONE {
+        return ReplyVerdict::Refused(head);
     }
     let n = frame::body_length(s);
+    let row = table::reply_row(frame::byte_at(s, frame::COMMAND), n);
+    let plain = frame::body_plain(table::reply_form(row), n);
+    let tail = frame::tail_answer(a, plain, s);
+    if tail != answer::DONE {
+        return ReplyVerdict::Refused(tail);
+    }
     if n == 0 {
         return ReplyVerdict::Refused(answer::NULL_MESSAGE);
     }
-    let row = table::reply_row(frame::byte_at(s, frame::COMMAND));
-    table::reply_verdict(row, n - 1)
+    table::reply_verdict(row)
 }
 
 // Returns the message of a reply whose tests came to this verdict, or its refusal.

@@ -48,20 +48,26 @@ fn fields(kind: RequestKind, s: &[u8]) -> RequestRead
     }
 }
 
-// Returns what the tests of a request come to in the papers' order, but those of its fields: the frame, then its body.
+// Returns what the tests of a request come to in the papers' order, but those of its fields.
+// The frame's tests take the form of the length byte from the row, those of the body the length and the kind.
 fn tested(a: Address, s: &[u8]) -> RequestVerdict
     ensures { λ r. ⌜ RequestHolds a (now (s .entry)) r ⌝ }
 {
-    let refusal = frame::frame_answer(Direction::Request, a, s);
-    if refusal != answer::DONE {
-        return RequestVerdict::Refused(refusal);
+    let head = frame::head_answer(Direction::Request, a, s);
+    if head != answer::DONE {
+        return RequestVerdict::Refused(head);
     }
     let n = frame::body_length(s);
+    let row = table::request_row(frame::byte_at(s, frame::COMMAND), n);
+    let plain = frame::body_plain(table::request_form(row), n);
+    let tail = frame::tail_answer(a, plain, s);
+    if tail != answer::DONE {
+        return RequestVerdict::Refused(tail);
+    }
     if n == 0 {
         return RequestVerdict::Refused(answer::UNKNOWN_COMMAND);
     }
-    let row = table::request_row(frame::byte_at(s, frame::COMMAND));
-    table::request_verdict(row, n - 1)
+    table::request_verdict(row)
 }
 
 // Reads a request that came to an address: returns the message, or the first refusal in the papers' order.

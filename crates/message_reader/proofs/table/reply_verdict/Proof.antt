@@ -1,9 +1,6 @@
 -- `message_reader::table::reply_verdict` meets its contract: the kind, 7 or 6.
 -- Assumes nothing.
-use mathlib.Core.Path.{sym, ap, _∙_}
-use mathlib.Core.Bool.{Bool, cond}
-use Rattle.message_reader.specs.declared.table.ReplyRow.{ReplyRow}
-use Rattle.message_reader.specs.declared.table.ReplyVerdict.the-variants as reply
+use mathlib.Core.Path.{sym, ap}
 use Rattle.message_reader.specs.Table.{replyVerdict}
 use borrow.Author.Needs.{needs}
 use Rattle.message_reader.proofs.table.reply_verdict.Statement.{statement}
@@ -12,32 +9,28 @@ use Rattle.message_reader.proofs.table.reply_verdict.Tie as tie
 enum-known-row : tie.Need-enum-known-row
 enum-known-row c = search needs
 
-length-right-requires : tie.Need-length-right-requires
-length-right-requires c κs = search needs
-
-returns : tie.Need-returns
-returns c =
-    let g = c .before .before .before .row .given in
-    ap (λ (x : Bool). cond x (reply.Known (g .0 .0)) (reply.Refused 7)) (sym (c .if1 .taken) ∙ c .before .length-right .ensures) ∙ sym (ap (λ (x : ReplyRow). replyVerdict x (c .before .before .before .before .before .args .n)) (g .1))
-
 enum-told : tie.Need-enum-told
 enum-told c = search needs
 
+enum-told-2 : tie.Need-enum-told-2
+enum-told-2 c = search needs
+
+returns : tie.Need-returns
+returns c = sym (ap replyVerdict (c .before .row .given .1))
+
 returns-2 : tie.Need-returns-2
-returns-2 c =
-    let g = c .before .before .before .row .given in
-    ap (λ (x : Bool). cond x (reply.Known (g .0 .0)) (reply.Refused 7)) (sym (c .if1 .left) ∙ c .before .length-right .ensures) ∙ sym (ap (λ (x : ReplyRow). replyVerdict x (c .before .before .before .before .before .args .n)) (g .1))
+returns-2 c = sym (ap replyVerdict (c .enum-told .given .1))
 
 returns-3 : tie.Need-returns-3
-returns-3 c = sym (ap (λ (x : ReplyRow). replyVerdict x (c .before .before .args .n)) (c .enum-told .given .1))
+returns-3 c = sym (ap replyVerdict (c .enum-told2 .given .1))
 
 pub reply-verdict-spec : {M : Type 1} → statement M
 reply-verdict-spec =
     tie.close
     (tie.spec
     enum-known-row
-    length-right-requires
-    returns
     enum-told
+    enum-told-2
+    returns
     returns-2
     returns-3)

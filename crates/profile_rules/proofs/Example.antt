@@ -39,7 +39,7 @@ only c = ap inProfile (entries c) ∙ go (eqb c 0x10) (starts-with-none _ c)
     go true e = refl
     go false e = rw e
 
-codes-10 : profileCodes only10 ≡ 0x10 ∷ []
+pub codes-10 : profileCodes only10 ≡ 0x10 ∷ []
 unfolding rising
 codes-10 = rising-ext (profileCode only10) (λ (c : ℕ). eqb c 0x10) allCodes 0 (λ i l h. only i) ∙ refl
 

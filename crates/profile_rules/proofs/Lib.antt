@@ -5,3 +5,7 @@ pub mod Storing
 pub mod Theorems
 pub mod Example
 pub mod Made
+pub mod Listed
+pub mod Sentences
+pub mod Operations
+pub mod Refuted

@@ -45,7 +45,7 @@ whole s e =
     record { size = leb-true _ _ (size .0); len = eqb-true _ _ (fields .0); kind = eqb-true _ _ (fields .1) }
 
 -- the first seven elements of a list
-seven : (s : List ℕ) → 7 ≤ length s
+pub seven : (s : List ℕ) → 7 ≤ length s
     → s ≡ getD s 0 0 ∷ getD s 1 0 ∷ getD s 2 0 ∷ getD s 3 0 ∷ getD s 4 0 ∷ getD s 5 0 ∷ getD s 6 0 ∷ drop 7 s
 seven s h =
     drop-cons s 0 0 (omega arith)

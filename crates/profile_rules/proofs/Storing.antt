@@ -50,10 +50,10 @@ stored-alike s (c ∷ cs) bytes d =
 -- ---- the entries
 
 -- the entry of a code with another value, and of another code
-value-here : (s : Settings) (c value : ℕ) → Sized s → c < allCodes → entryOf (withValue s c value) c ≡ entryValue (entryOf s c) value
+pub value-here : (s : Settings) (c value : ℕ) → Sized s → c < allCodes → entryOf (withValue s c value) c ≡ entryValue (entryOf s c) value
 value-here s c value z h = value-stored s c value z h c ∙ rw (eq-eqb c c refl)
 
-value-away : (s : Settings) (c value d : ℕ) → Sized s → c < allCodes → (d ≡ c → ⊥) → entryOf (withValue s c value) d ≡ entryOf s d
+pub value-away : (s : Settings) (c value d : ℕ) → Sized s → c < allCodes → (d ≡ c → ⊥) → entryOf (withValue s c value) d ≡ entryOf s d
 value-away s c value d z h q = value-stored s c value z h d ∙ rw (ne-eqb d c q)
 
 -- a code below all those that are stored keeps its entry

@@ -66,7 +66,7 @@ unfolding loadProfile loadAs
 written-loads s t o a = alike-accepted s t o a
 
 -- the settings after a profile that is accepted, and after one that is not
-accepted-as : (s : Settings) (bytes : List ℕ) → judgeProfile s bytes .answer ≡ done → loadProfile s bytes .settings ≡ stored s (profileCodes s) bytes
+pub accepted-as : (s : Settings) (bytes : List ℕ) → judgeProfile s bytes .answer ≡ done → loadProfile s bytes .settings ≡ stored s (profileCodes s) bytes
 unfolding loadProfile loadAs
 accepted-as s bytes e = rw e
 

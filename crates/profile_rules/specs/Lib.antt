@@ -1,3 +1,4 @@
 pub mod Records
 pub mod Profile
 pub mod Statements
+pub mod Operations

@@ -90,11 +90,13 @@ fn numbers_that_no_call_has_made() {
 fn judge(n: Numbers) {
     let mut buffer = [0xA5; BUFFER];
     let reply = end(n.offset);
+    // SAFETY: each pointer and its length are those of one array, and the arrays lie apart; the numbers may be any.
     let after = unsafe { ddcci_receive(n, buffer.as_mut_ptr(), BUFFER, reply.as_ptr(), reply.len()) };
     let (answer, phase, count) = expected(n, n.phase / 4);
     assert_eq!(after, Numbers { phase, count, answer, ..n }, "{n:?}");
     assert_eq!(buffer, [0xA5; BUFFER], "an empty fragment has no byte to store");
     let mut out = [0xA5; 38];
+    // SAFETY: pointer and length are those of one array; the numbers may be any.
     let built = unsafe { ddcci_request(n, out.as_mut_ptr(), out.len()) };
     if n.phase < 8 && n.phase % 4 == RUNNING && n.count < n.budget {
         assert_eq!(built, Built { answer: 0, length: if n.phase == RUNNING { 6 } else { 7 } });
@@ -109,6 +111,7 @@ fn judge(n: Numbers) {
 fn unknown_texts() {
     let buffer = [0; BUFFER];
     for kind in 2..=255 {
+        // SAFETY: pointer and length are those of one array.
         let n = unsafe { ddcci_begin(kind, buffer.as_ptr(), BUFFER, 10) };
         assert_eq!(n, Numbers { size: 0, offset: 0, budget: 0, count: 0, phase: 8, answer: UNKNOWN });
     }

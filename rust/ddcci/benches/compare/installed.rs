@@ -15,10 +15,12 @@ extern "C" {
 
 /// A function of an installed library, or none.
 fn function(file: &CStr, name: &CStr) -> Option<*mut c_void> {
+    // SAFETY: the name ends with a zero byte; the library's own start is trusted.
     let library = unsafe { dlopen(file.as_ptr(), RTLD_NOW) };
     if library.is_null() {
         return None;
     }
+    // SAFETY: the library is open, and the name ends with a zero byte.
     let f = unsafe { dlsym(library, name.as_ptr()) };
     (!f.is_null()).then_some(f)
 }
@@ -89,15 +91,20 @@ pub fn run() {
     let release = function(c"libddcutil.so.4", c"ddca_free_parsed_capabilities");
     match (parse, release) {
         (Some(parse), Some(release)) => {
+            // SAFETY: these are the types of the two functions in libddcutil 4's header.
             let parse: DdcutilParse = unsafe { std::mem::transmute(parse) };
+            // SAFETY: as above.
             let release: DdcutilFree = unsafe { std::mem::transmute(release) };
+            // SAFETY: the text ends with a zero byte, and what the parser gives is given back to it once.
             beside("libddcutil", |text| unsafe { ddcutil(parse, release, text) });
         }
         _ => println!("libddcutil is not installed (Debian: libddcutil4): not measured"),
     }
     match function(c"libddccontrol.so.0", c"ddcci_parse_caps") {
         Some(parse) => {
+            // SAFETY: this is the type of the function in libddccontrol 0's header.
             let parse: DdccontrolParse = unsafe { std::mem::transmute(parse) };
+            // SAFETY: the text ends with a zero byte, and what the parser gives is freed once.
             beside("libddccontrol", |text| unsafe { ddccontrol(parse, text) });
         }
         None => println!("libddccontrol is not installed (Debian: libddccontrol0): not measured"),

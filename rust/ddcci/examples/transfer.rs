@@ -5,7 +5,7 @@
 //! The display stands in this program too. Over I2C, `exchange` writes the request to address 37 and reads 38 bytes.
 use std::error::Error;
 
-use ddcci::{Capabilities, Display, Message, Nodes, State, TextKind, Timing, Transfer, OUTPUT_ROOM, TABLE_ROOM};
+use ddcci::{Display, Message, Timing, OUTPUT_ROOM, TABLE_ROOM};
 
 const TEXT: &[u8] = b"(prot(monitor)vcp(10 12 60(0F 11)))";
 
@@ -28,6 +28,8 @@ impl I2c {
 
 fn read(i2c: &mut I2c) -> Result<(), Box<dyn Error>> {
     // README begins
+    use ddcci::{Capabilities, Nodes, State, TextKind, Transfer};
+
     let mut buffer = [0; 4096];
     let mut transfer = Transfer::begin(TextKind::Capabilities, &mut buffer, 1000)?;
     while transfer.state() == State::Running {

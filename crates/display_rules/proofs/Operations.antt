@@ -1,23 +1,24 @@
--- The step follows the paper's sentences on Get, Set, Save and Timing: theorems of specs/Operations.antt.
+-- The step follows the paper's sentences on the reader's refusals, Get, Set, Save and Timing: theorems of specs/Operations.antt.
 use mathlib.Core.Path.{_≡_, refl, _∙_}
 use mathlib.Core.Bool.{Bool, true, false, _&&_}
 use mathlib.Core.List.{List, _∷_}
 use Prim.Native.Nat.{ℕ, _<_}
 use lib.ListN.{length, drop}
 use lib.Seq.{take-at, drop-at}
-use borrow.Author.Tests.{eq-eqb, le-leb}
+use borrow.Author.Tests.{eq-eqb, ne-eqb, le-leb}
 use Rattle.checksum.specs.Bytes.{Bytes, more}
 use Rattle.message_rules.specs.Body.{encodeBody}
-use Rattle.message_rules.specs.Message.{Request, getFeature, setFeature, timing, save, text, Reply, value, timingReply, replyBody, replies, requests, encode, Valid, toDisplay, toHost}
+use Rattle.message_rules.specs.Message.{Request, getFeature, setFeature, timing, save, text, Reply, value, timingReply, replyBody, replies, requests, encode, Valid, null, toDisplay, toHost}
 use Rattle.message_rules.specs.declared.Direction.the-variants as way
+use Rattle.message_rules.proofs.Order.{null-read}
 use Rattle.message_rules.proofs.Frames.{length-frame}
 use Rattle.message_rules.proofs.RoundTrip.{requests-round}
 use Rattle.settings.specs.Settings.{getCode}
 use Rattle.settings.specs.Entries.{Entry, entryOf}
 use Rattle.settings.proofs.Operations.{sets-as-written, saves-as-written}
-use Rattle.display_rules.specs.Turn.{Turn, accepted, bytesOf, getTurn, setTurn, saveTurn, timingTurn}
+use Rattle.display_rules.specs.Turn.{Turn, refusal, accepted, bytesOf, getTurn, setTurn, saveTurn, timingTurn}
 use Rattle.display_rules.specs.Step.{obey, lentWell, turn, outcome, step}
-use Rattle.display_rules.specs.Operations.{LentRight, Says, Replies, Sends, Gets, GetsFollow, SetsFollow, SavesFollow, TimingSent}
+use Rattle.display_rules.specs.Operations.{LentRight, Says, ReaderRefuses, Replies, Sends, Gets, GetsFollow, SetsFollow, SavesFollow, TimingSent}
 use Rattle.display_rules.specs.declared.Display.{Display}
 use Rattle.display_rules.specs.declared.Found.the-variants.{Nothing}
 use Rattle.display_rules.proofs.Sound.{made-is-sound}
@@ -39,6 +40,18 @@ replies-with n bytes out t e l f = rw e (record {
   rest = drop-at bytes (drop (length bytes) out) n l ∙ rw l;
   found = f;
 })
+
+-- ---- what the reader refuses
+
+pub reader-refuses : ReaderRefuses step
+unfolding step turn
+reader-refuses d lent table message out k w r = rw (lent-well d lent table out w, r)
+    (record {
+      answer = refl;
+      null = λ e. rw (eq-eqb k 6 e) (replies-with 3 _ out (refusal k d table (null toHost)) (null-read .fixed) refl refl);
+      silent = λ n. rw (ne-eqb k 6 n) (record { len = refl; bytes = refl; found = refl });
+      stays = record { display = refl; table = refl };
+    })
 
 -- ---- Get
 

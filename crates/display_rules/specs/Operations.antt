@@ -1,13 +1,13 @@
 -- Document 01, "The board", the operations sentence by sentence: answer numbers, what is kept of each code, and each byte of a reply, in the paper's own numbers.
--- A statement takes the rule for steps as a parameter: proofs/ proves it of Step.antt's, and refutes it of wrong ones. This file has 1, Get, Set, Save and Timing.
+-- A statement takes the rule for steps as a parameter: proofs/ proves it of Step.antt's, and refutes it of wrong ones. This file has 1, the reader's refusals, Get, Set, Save and Timing.
 use Prim.Native.Nat.{ℕ, _≤_, _<_}
 use mathlib.Core.Path.{_≡_}
 use mathlib.Core.Bool.{true, false}
-use mathlib.Core.List.{List}
+use mathlib.Core.List.{List, [], _∷_}
 use lib.ListN.{length, take, drop}
 use Rattle.checksum.specs.Bytes.{Bytes}
 use Rattle.message_rules.specs.Message.{Request, getFeature, setFeature, timing, save, text, Reply, value, timingReply, requests, replies, encode, decode, toDisplay, toHost}
-use Rattle.message_rules.specs.Read.{ok}
+use Rattle.message_rules.specs.Read.{ok, refused}
 use Rattle.settings.specs.Entries.{entryOf, Sized}
 use Rattle.settings.specs.Operations.{Sets, Saves}
 use Rattle.display_rules.specs.Step.{Outcome}
@@ -74,6 +74,19 @@ pub record Sizes (d : Display) (lent buffer out : List ℕ) (o : Outcome) : Type
 
 abbrev pub SizeNumbers : StepRule → Type 0
 SizeNumbers step = (d : Display) (lent table message out : List ℕ) → Sizes d lent table out (step d lent table message out)
+
+-- ---- 2 to 7: what the reader refuses
+
+pub record Refuses (d : Display) (buffer out : List ℕ) (k : ℕ) (o : Outcome) : Type 0 where
+  pub answer : o .answer ≡ k
+  -- 6: "null message in the output, reply length 3"; "the three bytes 6E 80 BE"
+  pub null : k ≡ 6 → Replies 3 (0x6E ∷ 0x80 ∷ 0xBE ∷ []) out o
+  pub silent : (k ≡ 6 → ⊥) → NoReply out o
+  pub stays : Stays d buffer o
+
+abbrev pub ReaderRefuses : StepRule → Type 0
+ReaderRefuses step = (d : Display) (lent table message out : List ℕ) (k : ℕ) → LentRight d lent table out → decode requests toDisplay message ≡ refused k
+    → Refuses d table out k (step d lent table message out)
 
 -- ---- Get
 

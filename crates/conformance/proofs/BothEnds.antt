@@ -29,13 +29,13 @@ use Rattle.transfer_rules.specs.Exchange as over
 use Rattle.transfer_rules.specs.Exchange.{Calls, rules, Turn, World, Exchange, cursorAfter, sentBy, Lawful, Course, after}
 use Rattle.transfer_rules.specs.declared.Transfer.{Transfer}
 use Rattle.transfer_rules.specs.Transfer.{isOpen}
-use Rattle.transfer_rules.specs.Demand3.{startOf}
+use Rattle.transfer_rules.specs.Demand3.{Supposed, startOf}
 use Rattle.transfer_rules.proofs.Messages.{request-injective}
 use Rattle.transfer_rules.proofs.Steps.{sent-is}
 use Rattle.transfer_rules.proofs.Kept.{first-le}
 use Rattle.transfer_rules.proofs.Demand3.{demand3}
 use Rattle.conformance.specs.Conformance.{held, Conforms}
-use Rattle.conformance.specs.BothEnds.{DisplayTurn, missed, stepped, Between, ended, answered, corrupted, closed, others, declares, loads, IsCourse, setupOf, BothEnds, OffsetsFit}
+use Rattle.conformance.specs.BothEnds.{DisplayTurn, missed, stepped, Between, ended, answered, corrupted, closed, others, declares, loads, IsCourse, Ready, setupOf, BothEnds, OffsetsFit}
 use Rattle.conformance.proofs.Conformance.{request-is, display-conforms}
 
 -- a request is bytes
@@ -92,7 +92,7 @@ module _ (step : StepRule) (f : Conforms step) (c : Calls) (k : TextKind) (lent 
       (record { isMade = made.loaded (s .isMade) profile; cursorIs = s .cursorIs ∙ ap held (sym (z .0)); textIs = z .1 ∙ s .textIs }) x
 
 -- the display's text is at most 4,096 bytes
-pub text-small : (k : TextKind) (d : Display) (lent table out : List ℕ) → Made step d → lentWell d (length lent) (length table) (length out) ≡ true →
+text-small : (k : TextKind) (d : Display) (lent table out : List ℕ) → Made step d → lentWell d (length lent) (length table) (length out) ≡ true →
     length (whole k d lent table) ≤ longestText
 text-small Capabilities d lent table out m w =
     omega (arith, lent-sizes d (length lent) (length table) (length out) w .text, made-is-sound d m .text)
@@ -102,10 +102,14 @@ pub is-course : IsCourse step
 is-course c k d lent table w es n m h x =
     course step display-conforms c k lent (whole k d lent table) d table w es n (record { isMade = m; cursorIs = h; textIs = refl }) x
 
+-- what demand 3 supposes
+pub supposed-of : (k : TextKind) (d : Display) (lent table out buffer : List ℕ) (budget : ℕ) → Ready step k d lent table out buffer budget → Supposed (setupOf k d lent table buffer budget)
+supposed-of k d lent table out buffer budget r =
+    record { bytes = r .bytes; small = text-small k d lent table out (r .isMade) (r .sizes); fits = r .fits; allowed = r .allowed }
+
 pub both-ends : BothEnds rules step
 both-ends k d lent table out buffer budget r es n x =
-    demand3 (setupOf k d lent table buffer budget)
-    (record { bytes = r .bytes; small = text-small k d lent table out (r .isMade) (r .sizes); fits = r .fits; allowed = r .allowed }) es n
+    demand3 (setupOf k d lent table buffer budget) (supposed-of k d lent table out buffer budget r) es n
     (is-course rules k d lent table _ es n (r .isMade) refl x)
 
 -- ---- the offsets of requests

@@ -1,20 +1,20 @@
 -- The exported calls follow the rules' calls, since the phase of a text and a state names both; so demand 3 holds of them. What is refused at the start stays closed.
 -- Assumes nothing.
-use Prim.Native.Nat.{ℕ, _+_, _/_, _%_, _<_}
-use mathlib.Core.Path.{_≡_, refl, ap, sym, _∙_, subst}
-use mathlib.Core.List.{List}
+use Prim.Native.Nat.{ℕ, _/_, _%_}
+use mathlib.Core.Path.{_≡_, refl, ap, ap₂, sym, _∙_, subst}
+use mathlib.Core.List.{List, [], _∷_}
+use lib.ListN.{length}
 use mathlib.Core.Bool.{Bool, true, false, cond, _&&_}
 use native.Mathlib.Omega.{arith}
-use lib.Dec.{eqb, ltb, leb}
-use borrow.Author.Tests.{eqb-true, eqb-false}
+use lib.Dec.{ltb, leb}
 use Rattle.message_rules.specs.declared.TextKind.{TextKind}
 use Rattle.message_rules.specs.declared.TextKind.the-variants.{Capabilities, Table}
 use Rattle.transfer_rules.specs.Transfer as rules
-use Rattle.transfer_rules.specs.Transfer.{isRunning, isOpen, RequestOutcome, ReceiveOutcome}
+use Rattle.transfer_rules.specs.Transfer.{isRunning, isOpen}
 use Rattle.transfer_rules.specs.Limits.{mostBudget}
 use Rattle.transfer_rules.specs.Exchange as over
-use Rattle.transfer_rules.specs.Exchange.{Calls}
-use Rattle.transfer_rules.specs.Demand3.{Demand3}
+use Rattle.transfer_rules.specs.Exchange.{World, Exchange, after, afterAll}
+use Rattle.transfer_rules.specs.Demand3.{startOf, Demand3}
 use Rattle.transfer_rules.proofs.Demand3.{demand3}
 use Rattle.transfer_rules.specs.declared.Begun.{Begun}
 use Rattle.transfer_rules.specs.declared.State.{State}
@@ -23,13 +23,24 @@ use Rattle.transfer_rules.specs.declared.Transfer.{Transfer}
 use Rattle.ddcci.specs.declared.transfers.TransferNumbers.{TransferNumbers}
 use Rattle.ddcci.specs.declared.transfers.TextNumber.{TextNumber}
 use Rattle.ddcci.specs.declared.transfers.TextNumber.the-variants.{Known, Unknown}
-use Rattle.ddcci.specs.Transfers.{stateNumber, stateOf, textNumber, textOf, firstPhase, phaseNumber, byText, numbersOf, transferOf, beganNumbers, unknownText, beginNumbers, requestOutcome, Received, receivedNumbers, unmoved, receiveNumbers}
-use Rattle.ddcci.specs.Follow.{HeaderNumbers, Spent, RefusedIsSpent, zeroes, SpentStays, Follows, standsFor, Names, begun, received, exported}
+use Rattle.ddcci.specs.Transfers.{stateOf, textNumber, textOf, phaseNumber, byText, numbersOf, transferOf, beganNumbers, unknownText, beginNumbers, requestOutcome, Received, receivedNumbers, unmoved, receiveNumbers}
+use Rattle.ddcci.specs.Follow.{HeaderFields, HeaderNumbers, Closed, RefusedIsClosed, zeroes, ClosedStays, Follows, receiveAll, Shows, InARow, DoneHolds, standsFor, begun, received, exported}
+
+pub header-fields : HeaderFields numbersOf
+header-fields =
+    record {
+      size = λ t a. refl;
+      offset = λ t a. refl;
+      budget = λ t a. refl;
+      count = λ t a. refl;
+      phase = λ t a. refl;
+      answer = λ t a. refl;
+    }
 
 pub header-numbers : HeaderNumbers phaseNumber
 header-numbers = record { capabilities = (refl, refl, refl, refl); table = (refl, refl, refl, refl) }
 
--- ---- numbers and transfers, there and back
+-- ---- the transfer that numbers stand for
 
 text-back : (k : TextKind) (s : State) → textOf (phaseNumber k s / 4) ≡ Known k
 text-back Capabilities Running = refl
@@ -74,30 +85,41 @@ follows = record {
 stands : (t : Transfer) (a : ℕ) → standsFor (numbersOf t a) ≡ t
 stands t a = by-its-text t a (λ (x : Transfer). x) (transferOf Capabilities (numbersOf t a))
 
--- a state's number is read back
-state-number : (s : ℕ) → s < 4 → stateNumber (stateOf s) ≡ s
-state-number s h = go (eqb s 0) refl (eqb s 1) refl (eqb s 2) refl
-  where
-    go : (x : Bool) → eqb s 0 ≡ x → (y : Bool) → eqb s 1 ≡ y → (z : Bool) → eqb s 2 ≡ z → stateNumber (cond x Exhausted (cond y Running (cond z Done Overflowed))) ≡ s
-    go true e y f z g = sym (eqb-true s 0 e)
-    go false e true f z g = sym (eqb-true s 1 f)
-    go false e false f true g = sym (eqb-true s 2 g)
-    go false e false f false g = omega (arith, eqb-false s 0 e, eqb-false s 1 f, eqb-false s 2 g)
+-- ---- calls in a row
 
-numbers-back : (n : TransferNumbers) → n .phase < 8 → numbersOf (standsFor n) (n .answer) ≡ n
-numbers-back n h = go (eqb (n .phase / 4) 0) refl (eqb (n .phase / 4) 1) refl
-  where
-    phased : (p : ℕ) → p ≡ n .phase → _≡_ {A = TransferNumbers} (record { size = n .size; offset = n .offset; budget = n .budget; count = n .count; phase = p; answer = n .answer }) n
-    phased p e = ap (λ (x : ℕ). record { size = n .size; offset = n .offset; budget = n .budget; count = n .count; phase = x; answer = n .answer }) e
+-- an exchange more
+receives-on : (w : World) (e : Exchange) (n : TransferNumbers) (a : ℕ) (buffer : List ℕ) → n ≡ numbersOf (w .transfer) a → buffer ≡ w .buffer →
+    receiveNumbers n buffer (e .came) ≡ receivedNumbers (rules.receive (w .transfer) (w .buffer) (e .came))
+receives-on w e n a buffer h g = ap₂ (λ (x : TransferNumbers) (y : List ℕ). receiveNumbers x y (e .came)) h g ∙ follows .receive (w .transfer) a (w .buffer) (e .came)
 
-    go : (x : Bool) → eqb (n .phase / 4) 0 ≡ x → (y : Bool) → eqb (n .phase / 4) 1 ≡ y →
-        numbersOf (byText (cond x (Known Capabilities) (cond y (Known Table) Unknown)) (λ k. transferOf k n) (transferOf Capabilities n)) (n .answer) ≡ n
-    go true e y f = phased (0 + stateNumber (stateOf (n .phase % 4))) (omega (arith, eqb-true (n .phase / 4) 0 e, state-number (n .phase % 4) (omega arith)))
-    go false e true f = phased (4 + stateNumber (stateOf (n .phase % 4))) (omega (arith, eqb-true (n .phase / 4) 1 f, state-number (n .phase % 4) (omega arith)))
-    go false e false f = absurd (omega (arith, eqb-false (n .phase / 4) 0 e, eqb-false (n .phase / 4) 1 f))
+shows-all : (w : World) (n : TransferNumbers) (a : ℕ) (buffer : List ℕ) (es : List Exchange) → n ≡ numbersOf (w .transfer) a → buffer ≡ w .buffer →
+    Shows (afterAll over.rules w es) (receiveAll n buffer es)
+unfolding after
+shows-all w n a buffer [] h g = record { answer = a; numbers = h; buffer = g }
+shows-all w n a buffer (e ∷ es) h g =
+    let z = receives-on w e n a buffer h g in
+    shows-all (after over.rules w e) _ _ _ es (ap (λ (x : Received). x .numbers) z) (ap (λ (x : Received). x .buffer) z)
 
-pub names : Names
-names = record { transfer = stands; numbers = numbers-back }
+pub in-a-row : InARow
+in-a-row s es = shows-all (startOf over.rules s) _ _ (s .buffer) es (follows .begin (s .kind) (length (s .buffer)) (s .budget)) refl
+
+-- the state 2 is done
+two-is-done : (k : TextKind) (s : State) → phaseNumber k s % 4 ≡ 2 → s ≡ Done
+two-is-done k Done h = refl
+two-is-done Capabilities Running h = absurd (omega (arith, h))
+two-is-done Capabilities Exhausted h = absurd (omega (arith, h))
+two-is-done Capabilities Overflowed h = absurd (omega (arith, h))
+two-is-done Table Running h = absurd (omega (arith, h))
+two-is-done Table Exhausted h = absurd (omega (arith, h))
+two-is-done Table Overflowed h = absurd (omega (arith, h))
+
+pub done-holds : DoneHolds
+done-holds s y es n c h =
+    let w : World = afterAll over.rules (startOf over.rules s) es in
+    let z = in-a-row s es in
+    let d : w .transfer .state ≡ Done = two-is-done (w .transfer .kind) (w .transfer .state) (sym (ap (λ (x : TransferNumbers). x .phase % 4) (z .numbers)) ∙ h) in
+    let e = demand3 s y es n c .2 .done d in
+    (ap (λ (x : TransferNumbers). x .offset) (z .numbers) ∙ e .0, z .buffer ∙ e .2)
 
 -- ---- the exported calls are the rules' calls
 
@@ -123,12 +145,12 @@ exported-demand3 = subst Demand3 (sym same-calls) demand3
 
 -- ---- a refused start
 
-spent-phase : (t : TextKind) (s : State) → s ≡ Exhausted → phaseNumber t s % 4 ≡ 0
-spent-phase Capabilities s e = ap (λ (x : State). phaseNumber Capabilities x % 4) e
-spent-phase Table s e = ap (λ (x : State). phaseNumber Table x % 4) e
+exhausted-phase : (t : TextKind) (s : State) → s ≡ Exhausted → phaseNumber t s % 4 ≡ 0
+exhausted-phase Capabilities s e = ap (λ (x : State). phaseNumber Capabilities x % 4) e
+exhausted-phase Table s e = ap (λ (x : State). phaseNumber Table x % 4) e
 
-pub refused-is-spent : RefusedIsSpent beginNumbers
-refused-is-spent kind size budget h = go (textOf kind) h
+pub refused-is-closed : RefusedIsClosed beginNumbers
+refused-is-closed kind size budget h = go (textOf kind) h
   where
     accepted : TextKind → Begun
     accepted t = record { answer = 0; transfer = record { kind = t; state = rules.firstState budget; reached = record { 0 = 0 }; size = size; budget = budget; count = 0 } }
@@ -136,35 +158,35 @@ refused-is-spent kind size budget h = go (textOf kind) h
     refused : TextKind → Begun
     refused t = record { answer = 18; transfer = record { kind = t; state = Exhausted; reached = record { 0 = 0 }; size = 0; budget = 0; count = 0 } }
 
-    begun-spent : (t : TextKind) (x : Bool) → let b = cond x (accepted t) (refused t) in (b .answer ≡ 0 → ⊥) → Spent (beganNumbers b)
-    begun-spent t true h = absurd (h refl)
-    begun-spent t false h = record { state = spent-phase t Exhausted refl; size = refl; offset = refl; budget = refl; count = refl }
+    begun-closed : (t : TextKind) (x : Bool) → let b = cond x (accepted t) (refused t) in (b .answer ≡ 0 → ⊥) → Closed (beganNumbers b)
+    begun-closed t true h = absurd (h refl)
+    begun-closed t false h = record { state = exhausted-phase t Exhausted refl; size = refl; offset = refl; budget = refl; count = refl }
 
-    go : (x : TextNumber) → let n = byText x (λ t. beganNumbers (rules.begin t size budget)) unknownText in (n .answer ≡ 0 → ⊥) → Spent n
-    go (Known t) h = begun-spent t (leb budget mostBudget) h
+    go : (x : TextNumber) → let n = byText x (λ t. beganNumbers (rules.begin t size budget)) unknownText in (n .answer ≡ 0 → ⊥) → Closed n
+    go (Known t) h = begun-closed t (leb budget mostBudget) h
     go Unknown h = record { state = refl; size = refl; offset = refl; budget = refl; count = refl }
 
-pub zeroes-spent : Spent zeroes
-zeroes-spent = record { state = refl; size = refl; offset = refl; budget = refl; count = refl }
+pub zeroes-closed : Closed zeroes
+zeroes-closed = record { state = refl; size = refl; offset = refl; budget = refl; count = refl }
 
-module _ (n : TransferNumbers) (s : Spent n) where
-  spent-state : stateOf (n .phase % 4) ≡ Exhausted
-  spent-state = ap stateOf (s .state)
+module _ (n : TransferNumbers) (s : Closed n) where
+  is-exhausted : stateOf (n .phase % 4) ≡ Exhausted
+  is-exhausted = ap stateOf (s .state)
 
-  spent-closed : (t : TextKind) → isOpen (transferOf t n) ≡ false
-  spent-closed t = ap (λ (x : State). isRunning x && ltb (n .count) (n .budget)) spent-state
+  not-open : (t : TextKind) → isOpen (transferOf t n) ≡ false
+  not-open t = ap (λ (x : State). isRunning x && ltb (n .count) (n .budget)) is-exhausted
 
-  spent-asks : (out : List ℕ) (x : TextNumber) →
+  asks-nothing : (out : List ℕ) (x : TextNumber) →
       let o = byText x (λ t. rules.request (transferOf t n) out) (record { answer = 6; len = 0; output = out }) in (o .answer ≡ 0 → ⊥) × (o .output ≡ out)
-  spent-asks out (Known t) = rw (spent-closed t) ((λ e. omega (arith, e)), refl)
-  spent-asks out Unknown = ((λ e. omega (arith, e)), refl)
+  asks-nothing out (Known t) = rw (not-open t) ((λ e. omega (arith, e)), refl)
+  asks-nothing out Unknown = ((λ e. omega (arith, e)), refl)
 
-  spent-stays : (buffer came : List ℕ) (x : TextNumber) →
-      let r = byText x (λ t. receivedNumbers (rules.receive (transferOf t n) buffer came)) (record { numbers = unmoved n; buffer = buffer }) in Spent (r .numbers) × (r .buffer ≡ buffer)
-  spent-stays buffer came (Known t) =
-      rw (spent-closed t)
-      (record { state = spent-phase t (stateOf (n .phase % 4)) spent-state; size = s .size; offset = s .offset; budget = s .budget; count = s .count }, refl)
-  spent-stays buffer came Unknown = (record { state = s .state; size = s .size; offset = s .offset; budget = s .budget; count = s .count }, refl)
+  stays-closed : (buffer came : List ℕ) (x : TextNumber) →
+      let r = byText x (λ t. receivedNumbers (rules.receive (transferOf t n) buffer came)) (record { numbers = unmoved n; buffer = buffer }) in Closed (r .numbers) × (r .buffer ≡ buffer)
+  stays-closed buffer came (Known t) =
+      rw (not-open t)
+      (record { state = exhausted-phase t (stateOf (n .phase % 4)) is-exhausted; size = s .size; offset = s .offset; budget = s .budget; count = s .count }, refl)
+  stays-closed buffer came Unknown = (record { state = s .state; size = s .size; offset = s .offset; budget = s .budget; count = s .count }, refl)
 
-pub stays-spent : SpentStays requestOutcome receiveNumbers
-stays-spent = record { asks = λ n s out. spent-asks n s out (textOf (n .phase / 4)); stays = λ n s buffer came. spent-stays n s buffer came (textOf (n .phase / 4)) }
+pub closed-stays : ClosedStays requestOutcome receiveNumbers
+closed-stays = record { asks = λ n s out. asks-nothing n s out (textOf (n .phase / 4)); stays = λ n s buffer came. stays-closed n s buffer came (textOf (n .phase / 4)) }

@@ -11,19 +11,18 @@ use lib.ListN.{length, take, drop, length-append, length-take, length-drop}
 use lib.Seq.{take-append-seam, drop-append-add, drop-drop, take-add}
 use lib.Dec.{eqb}
 use borrow.Author.Tests.{eqb-true, eqb-false}
-use Rattle.checksum.specs.Bytes.{Bytes}
 use Rattle.checksum.proofs.Bytes.{bytes-take, bytes-drop}
 use Rattle.message_rules.specs.Read.{Read, ok, refused}
 use Rattle.message_rules.specs.Message.{Reply, Valid, replies}
 use Rattle.message_rules.specs.declared.TextKind.{TextKind}
 use Rattle.transfer_rules.specs.declared.State.{State}
 use Rattle.transfer_rules.specs.declared.State.the-variants.{Running, Done, Exhausted, Overflowed}
-use Rattle.message_rules.specs.Limits.{longestText}
 use Rattle.transfer_rules.specs.Fragment.{Fragment, fragmentFor, fragmentMessage, readReply, fragmentIn, fragmentOf, dataIn}
 use Rattle.transfer_rules.specs.Transfer.{isOpen, room, ReceiveOutcome, exhaustedAt, counted, stateAfter, put, refuse, judge}
 use Rattle.transfer_rules.specs.Conforming.{Cursor}
 use Rattle.transfer_rules.specs.Exchange.{rules, World, Exchange, Turn, ignores, acts, cursorAfter, countedBy, advance, RepliedBy, Replied, Corrupted}
 use Rattle.transfer_rules.specs.Exchange.{received as received·, after as after·, Lawful as Lawful·, Follows as Follows·}
+use Rattle.transfer_rules.specs.Demand3.{Setup, Supposed}
 use Rattle.transfer_rules.proofs.Messages.{fragment-valid, read-fragment, read-valid, read-begins, fragment-in, data-in, same-fragment, never-read, fragment-of, OwnNumber, read-refuses, not-wanted-own, kind-refuses}
 use Rattle.transfer_rules.proofs.Steps.{open-runs, runs-open, receive-closed, receive-open, judge-fragment, sent-for, CursorNear, Lands, moves-land, lands-near, size-end}
 
@@ -47,15 +46,15 @@ StateKept total budget count reached cursor m n Done = (reached ≡ total) × (c
 StateKept total budget count reached cursor m n Exhausted = (count ≡ budget) × (count ≤ total + n)
 StateKept total budget count reached cursor m n Overflowed = ⊥
 
-pub record Kept (k : TextKind) (text buffer : List ℕ) (budget : ℕ) (w : World) (m n : ℕ) : Type 0 where
-  pub kindIs : w .transfer .kind ≡ k
-  pub sizeIs : w .transfer .size ≡ length buffer
-  pub budgetIs : w .transfer .budget ≡ budget
+pub record Kept (s : Setup) (w : World) (m n : ℕ) : Type 0 where
+  pub kindIs : w .transfer .kind ≡ s .kind
+  pub sizeIs : w .transfer .size ≡ length (s .buffer)
+  pub budgetIs : w .transfer .budget ≡ s .budget
   pub reachedIs : w .transfer .reached .0 ≡ length (w .accepted)
-  pub first : w .accepted ≡ take (length (w .accepted)) text
-  pub holds : w .buffer ≡ w .accepted ++ drop (length (w .accepted)) buffer
+  pub first : w .accepted ≡ take (length (w .accepted)) (s .text)
+  pub holds : w .buffer ≡ w .accepted ++ drop (length (w .accepted)) (s .buffer)
   pub countIs : w .transfer .count ≡ w .calls
-  pub stateIs : StateKept (length text) budget (w .transfer .count) (w .transfer .reached .0) (w .cursor) m n (w .transfer .state)
+  pub stateIs : StateKept (length (s .text)) (s .budget) (w .transfer .count) (w .transfer .reached .0) (w .cursor) m n (w .transfer .state)
 
 -- ---- lists
 
@@ -87,8 +86,20 @@ pub data Judged (k : TextKind) (w : World) (e : Exchange) : Type 0 where
   wanted : (d : List ℕ) → readReply (e .came) ≡ ok (fragmentFor k (w .transfer .reached .0) d) → Judged k w e
   other : Refused w e → ((d : List ℕ) → readReply (e .came) ≡ ok (fragmentFor k (w .transfer .reached .0) d) → ⊥) → Judged k w e
 
-module _ (k : TextKind) (text buffer : List ℕ) (budget : ℕ) (bytes : Bytes text) (small : length text ≤ longestText) (fits : length text ≤ length buffer) where
-  module _ (w : World) (e : Exchange) (m n : ℕ) (v : Kept k text buffer budget w m n) where
+module _ (setup : Setup) (supposed : Supposed setup) where
+  abbrev k : TextKind
+  k = setup .kind
+
+  abbrev text : List ℕ
+  text = setup .text
+
+  abbrev buffer : List ℕ
+  buffer = setup .buffer
+
+  abbrev budget : ℕ
+  budget = setup .budget
+
+  module _ (w : World) (e : Exchange) (m n : ℕ) (v : Kept setup w m n) where
     pub reached-le : w .transfer .reached .0 ≤ length text
     reached-le = omega (arith, first-le (w .accepted) text (v .first), v .reachedIs)
 
@@ -117,7 +128,7 @@ module _ (k : TextKind) (text buffer : List ℕ) (budget : ℕ) (bytes : Bytes t
     -- it is a fragment at the offset reached
     at-valid : (b : Cursor) → Lands (length text) (w .transfer .reached .0) b → Valid replies (fragmentFor k (w .transfer .reached .0) (fragment-at b))
     unfolding fragment-at
-    at-valid b l = fragment-valid k _ _ (omega (arith, reached-le)) (omega (arith, fragment-length b l, l .sized .most)) (bytes-take (b .size) (bytes-drop (w .transfer .reached .0) bytes))
+    at-valid b l = fragment-valid k _ _ (omega (arith, reached-le)) (omega (arith, fragment-length b l, l .sized .most)) (bytes-take (b .size) (bytes-drop (w .transfer .reached .0) (supposed .bytes)))
 
     -- and is read as such
     pub reply-read : isOpen (w .transfer) ≡ true → (t : Turn) → Lawful k text w e t → RepliedBy (e .came) t →
@@ -226,7 +237,7 @@ module _ (k : TextKind) (text buffer : List ℕ) (budget : ℕ) (bytes : Bytes t
             record { sized = λ _. rw (lands .at) (lands .sized); near = λ _ _. omega (arith, lands .at, d-length) },
           )
 
-      answered-world-kept : Kept k text buffer budget answered-world (suc m) n
+      answered-world-kept : Kept setup answered-world (suc m) n
       unfolding answered-world
       answered-world-kept =
           record {
@@ -240,7 +251,7 @@ module _ (k : TextKind) (text buffer : List ℕ) (budget : ℕ) (bytes : Bytes t
             stateIs = answered-state (eqb (length d) 0) refl (eqb (w .transfer .count + 1) (w .transfer .budget)) refl;
           }
 
-      pub answered-kept : Kept k text buffer budget (after w e) (suc m) n
+      pub answered-kept : Kept setup (after w e) (suc m) n
       answered-kept = rw answered-after answered-world-kept
 
     -- ---- a reply is the fragment wanted, or refused
@@ -327,7 +338,7 @@ module _ (k : TextKind) (text buffer : List ℕ) (budget : ℕ) (bytes : Bytes t
             turn-near (s .running) (e .turn) (f .lawful),
           )
 
-      refused-world-kept : Kept k text buffer budget refused-world (suc m) (suc n)
+      refused-world-kept : Kept setup refused-world (suc m) (suc n)
       unfolding refused-world
       refused-world-kept =
           record {
@@ -341,7 +352,7 @@ module _ (k : TextKind) (text buffer : List ℕ) (budget : ℕ) (bytes : Bytes t
             stateIs = refused-state (eqb (w .transfer .count + 1) (w .transfer .budget)) refl;
           }
 
-      pub corrupted-kept : Kept k text buffer budget (after w e) (suc m) (suc n)
+      pub corrupted-kept : Kept setup (after w e) (suc m) (suc n)
       corrupted-kept = rw refused-after refused-world-kept
 
     -- ---- an exchange of a closed transfer
@@ -361,7 +372,7 @@ module _ (k : TextKind) (text buffer : List ℕ) (budget : ℕ) (bytes : Bytes t
       closed-state Exhausted q i = i
       closed-state Overflowed q i = i
 
-      closed-world-kept : Kept k text buffer budget closed-world (suc m) n
+      closed-world-kept : Kept setup closed-world (suc m) n
       unfolding closed-world
       closed-world-kept =
           record {
@@ -375,5 +386,5 @@ module _ (k : TextKind) (text buffer : List ℕ) (budget : ℕ) (bytes : Bytes t
             stateIs = closed-state (w .transfer .state) refl (v .stateIs);
           }
 
-      pub closed-kept : Kept k text buffer budget (after w e) (suc m) n
+      pub closed-kept : Kept setup (after w e) (suc m) n
       closed-kept = rw closed-after closed-world-kept

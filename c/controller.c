@@ -10,9 +10,13 @@ static const uint8_t text[] = "(vcp(01 10 F4))";
 static uint8_t kept_profile[DDCCI_DISPLAY_LONGEST_PROFILE]; /* yours: flash memory */
 static size_t kept_length;
 
-static void set_panel(uint8_t code, uint16_t value) { printf("  panel: code %02X is %u\n", code, value); }
+static void set_panel(uint8_t code, uint16_t value) {
+    printf("  panel: code %02X is %u\n", code, value);
+}
 
-static void show_list(const uint8_t *list, size_t length) { printf("  panel: %.*s\n", (int)length, (const char *)list); }
+static void show_list(const uint8_t *list, size_t length) {
+    printf("  panel: %.*s\n", (int)length, (const char *)list);
+}
 
 /* docs/CONTROLLER.md begins */
 static ddcci_display display;

@@ -1,4 +1,5 @@
-//! Links the proved static libraries, which `rt staticlib ddcci` and `rt staticlib ddcci_display` write to `target/staticlib/`.
+//! Links the proved static libraries, which `rt staticlib ddcci` and `rt staticlib ddcci_display` write to
+//! `target/staticlib/`.
 use std::path::Path;
 
 fn main() {

@@ -34,8 +34,8 @@ fn record(kind: u8, body: &[u8]) -> Vec<u8> {
     [&[kind], length.as_slice(), body].concat()
 }
 
-/// Returns the bytes that `display_pipe` copies from its start to its end, for a display with a code and so many equal
-/// messages.
+/// Returns the bytes that `display_pipe` copies from its start to its end, for a display with a code and so many
+/// equal messages.
 fn copied(counter: &Path, message: &[u8], times: usize) -> usize {
     let start = record(1, b"\x02\x1C\x34\x70\x17\x05\x00(vcp(10 F4))");
     let declare = record(2, &[0x10, 1, 1, 0, 1, 100, 0, 50, 0]);

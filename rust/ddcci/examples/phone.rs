@@ -1,4 +1,5 @@
-//! What a phone program does: reads a display's capabilities string, shows its settings by name, and builds two requests.
+//! What a phone program does: reads a display's capabilities string, shows its settings by name, and builds two
+//! requests.
 //!
 //!     cargo run --example phone -- '(prot(monitor)vcp(02 10 12 60(0F 11)))'
 //!     cargo run --example phone -- 6E8BE3000028766370283130291B 6E84E300082978 6E83E3000957
@@ -63,7 +64,8 @@ fn bytes_of_hex(word: &[u8]) -> Option<Vec<u8>> {
     (0..digits.len()).step_by(2).map(|i| u8::from_str_radix(&digits[i..i + 2], 16).ok()).collect()
 }
 
-/// Returns the string that a display's replies bring, joined by a transfer; an error where they do not bring it whole.
+/// Returns the string that a display's replies bring, joined by a transfer; an error where they do not bring it
+/// whole.
 fn joined(replies: &[Vec<u8>]) -> Result<Vec<u8>, String> {
     let mut buffer = vec![0; 4096];
     let mut transfer =
@@ -76,7 +78,8 @@ fn joined(replies: &[Vec<u8>]) -> Result<Vec<u8>, String> {
     transfer.finish().map(<[u8]>::to_vec).map_err(|unfinished| unfinished.to_string())
 }
 
-/// Returns the words of a group, parted by spaces. Some displays write bytes without spaces between: these are parted.
+/// Returns the words of a group, parted by spaces. Some displays write bytes without spaces between: these are
+/// parted.
 fn words(all: &Capabilities<'_>, of: &Node<'_>) -> String {
     let mut words: Vec<String> = vec![];
     for node in all.children(Some(of)) {

@@ -1,4 +1,5 @@
-//! What a host does: reads a display's capabilities string over a line that loses every third reply, and shows its words.
+//! What a host does: reads a display's capabilities string over a line that loses every third reply, and shows its
+//! words.
 //!
 //!     cargo run --example transfer
 //!

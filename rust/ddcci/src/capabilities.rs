@@ -131,9 +131,10 @@ impl fmt::Debug for Capabilities<'_> {
 
 /// Reads a capabilities string into four buffers of the caller's, one entry a node, and returns the number of nodes.
 ///
-/// This is the C function; [`Capabilities::read`] keeps the buffers for you. The room is the length of the shortest of
-/// the buffers, at most [`MOST_NODES`]. A node's entries are the start and the length of its word, its parent (65,535 in
-/// the outer group), and 1 where a group follows it, else 0. Entries past the nodes stay; a refusal leaves all as it was.
+/// This is the C function; [`Capabilities::read`] keeps the buffers for you. The room is the length of the shortest
+/// of the buffers, at most [`MOST_NODES`]. A node's entries are the start and the length of its word, its parent
+/// (65,535 in the outer group), and 1 where a group follows it, else 0. Entries past the nodes stay; a refusal leaves
+/// all as it was.
 pub fn read_capabilities_into(
     text: &[u8],
     starts: &mut [u16],

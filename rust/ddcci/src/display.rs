@@ -63,11 +63,20 @@ pub struct Step {
 ///
 /// let text = b"(vcp(10 12))";
 /// let mut display = Display::start(Timing::default(), text, 32)?;
-/// display.declare(Declaration { code: 0x10, readable: true, writable: true, kind: 0, continuous: true, maximum: 100, present: 50 })?;
+/// display.declare(Declaration {
+///     code: 0x10,
+///     readable: true,
+///     writable: true,
+///     kind: 0,
+///     continuous: true,
+///     maximum: 100,
+///     present: 50,
+/// })?;
 /// let (mut table, mut out) = ([0; TABLE_ROOM], [0; OUTPUT_ROOM]);
 /// let request = Request::Get { code: 0x10 }.to_bytes()?;
 /// let step = display.step(text, &mut table, &request, &mut out);
-/// assert_eq!(Reply::read(&out[..step.length])?, Reply::Value { result: 0, code: 0x10, kind: 0, max: 100, present: 50 });
+/// let value = Reply::Value { result: 0, code: 0x10, kind: 0, max: 100, present: 50 };
+/// assert_eq!(Reply::read(&out[..step.length]), Ok(value));
 /// # Ok::<(), ddcci::Refusal>(())
 /// ```
 #[derive(Clone, PartialEq, Eq)]
@@ -103,8 +112,8 @@ impl Display {
     /// # use ddcci::{Declaration, Display, Timing};
     /// # let mut display = Display::start(Timing::default(), b"", 32)?;
     /// # for code in [0x60, 0x10] {
-    /// #     let declared = Declaration { code, readable: true, writable: true, kind: 0, continuous: true, maximum: 100, present: 50 };
-    /// #     display.declare(declared)?;
+    /// #     let (readable, writable, kind, continuous, maximum, present) = (true, true, 0, true, 100, 50);
+    /// #     display.declare(Declaration { code, readable, writable, kind, continuous, maximum, present })?;
     /// # }
     /// assert_eq!(display.declared_codes().collect::<Vec<u8>>(), [0x10, 0x60]);
     /// # Ok::<(), ddcci::Refusal>(())
@@ -167,7 +176,8 @@ impl Display {
     /// ```
     /// # use ddcci::{Declaration, Display, Refusal, Timing};
     /// # let mut display = Display::start(Timing::default(), b"", 32)?;
-    /// # display.declare(Declaration { code: 0x10, readable: true, writable: true, kind: 0, continuous: true, maximum: 100, present: 50 })?;
+    /// # let (code, readable, writable, kind, continuous, maximum, present) = (0x10, true, true, 0, true, 100, 50);
+    /// # display.declare(Declaration { code, readable, writable, kind, continuous, maximum, present })?;
     /// let mut sheet = [0; 7];
     /// assert_eq!(display.write_profile(&mut sheet)?, 7);
     /// assert_eq!(sheet, [5, 0, 1, 0, 0x10, 50, 0]);

@@ -1,10 +1,10 @@
 //! Safe bindings of Paneknoll, a verified implementation of both ends of VESA DDC/CI 1.1.
 //!
-//! Every call below goes to a function that is proved, for all inputs, to be safe, to end and to answer as document 01
-//! says. None of them panics on any bytes, and none allocates.
+//! Every call below goes to a function that is proved, for all inputs, to be safe, to end and to answer as document
+//! 01 says. None of them panics on any bytes, and none allocates.
 //!
-//! The crate is `no_std` without its feature `std`, which is on by default and adds only the change of a refusal into a
-//! [`std::io::Error`]. The archives that it links are built for x86-64 Linux.
+//! The crate is `no_std` without its feature `std`, which is on by default and adds only the change of a refusal into
+//! a [`std::io::Error`]. The archives that it links are built for x86-64 Linux.
 #![cfg_attr(not(feature = "std"), no_std)]
 #![deny(missing_docs, missing_debug_implementations, unsafe_op_in_unsafe_fn)]
 #![deny(clippy::undocumented_unsafe_blocks)]

@@ -4,8 +4,8 @@
 //! Their sizes are those that the headers hold; both refuse to compile with others.
 //!
 //! # Safety
-//! Every function may be called with any numbers. A pointer and the length behind it must be those of one slice that may
-//! be read, and written where the pointer is `*mut`; a slice that is written overlaps no other slice of the call.
+//! Every function may be called with any numbers. A pointer and the length behind it must be those of one slice that
+//! may be read, and written where the pointer is `*mut`; a slice that is written overlaps no other slice of the call.
 use crate::display::{Declaration, Timing};
 
 #[repr(C)]

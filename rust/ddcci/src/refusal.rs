@@ -3,7 +3,8 @@ use core::fmt;
 
 macro_rules! refusals {
     ($($(#[$doc:meta])* $name:ident = $number:literal, $text:literal;)*) => {
-        /// Why a call was refused. Each refusal has the number of document 01's table, and leaves what that table says.
+        /// Why a call was refused. Each refusal has the number of document 01's table, and leaves what that table
+        /// says.
         ///
         /// Further numbers may join the table.
         #[derive(Debug, Clone, Copy, PartialEq, Eq, Hash)]
@@ -100,6 +101,17 @@ impl fmt::Display for Refusal {
 impl core::error::Error for Refusal {}
 
 /// For programs that talk to a device file: a refusal is invalid data.
+///
+/// ```
+/// fn brightness(reply: &[u8]) -> std::io::Result<u16> {
+///     match ddcci::Reply::read(reply)? {
+///         ddcci::Reply::Value { code: 0x10, present, .. } => Ok(present),
+///         _ => Err(ddcci::Refusal::NotWanted.into()),
+///     }
+/// }
+/// assert_eq!(brightness(&[0x6E, 0x88, 0x02, 0x00, 0x10, 0x00, 0x00, 0x64, 0x00, 0x32, 0xF2]).unwrap(), 50);
+/// assert_eq!(brightness(b"").unwrap_err().to_string(), "refused 2: the message is under 3 bytes");
+/// ```
 #[cfg(feature = "std")]
 impl From<Refusal> for std::io::Error {
     fn from(refusal: Refusal) -> std::io::Error {

@@ -68,13 +68,13 @@ impl core::error::Error for Unfinished {}
 /// Ask with [`Transfer::request`], send that, and give what came back to [`Transfer::receive`] while the state is
 /// [`State::Running`]. Then [`Transfer::finish`] gives the text, or says why there is none.
 ///
-/// Proved of it (demand 3): whatever the line loses, cuts, or changes so that the reader refuses it, the buffer begins
-/// with the first bytes of the text, and a transfer that says done holds exactly the text.
+/// Proved of it (demand 3): whatever the line loses, cuts, or changes so that the reader refuses it, the buffer
+/// begins with the first bytes of the text, and a transfer that says done holds exactly the text.
 ///
-/// Supposed is that nobody changes the text or asks for its fragments meanwhile, and that a fragment of the text's kind
-/// at the very offset asked for comes only as the display's own reply to that request. The checksum is one exclusive-or
-/// byte: it refuses each single flipped bit, but two flips of the same bit in two bytes pass it, and then other bytes
-/// are joined.
+/// Supposed is that nobody changes the text or asks for its fragments meanwhile, and that a fragment of the text's
+/// kind at the very offset asked for comes only as the display's own reply to that request. The checksum is one
+/// exclusive-or byte: it refuses every change within a single byte other than the length byte, but two flips of the
+/// same bit in two bytes pass it, and then other bytes are joined.
 ///
 /// ```
 /// use ddcci::{Reply, State, TextKind, Transfer};
@@ -114,10 +114,12 @@ impl<'a> Transfer<'a> {
         Message::built(|out| self.write_request(out))
     }
 
-    /// Writes the same request to the start of `out`, which has at least [`OUTPUT_ROOM`] bytes, and returns its length.
+    /// Writes the same request to the start of `out`, which has at least [`OUTPUT_ROOM`] bytes, and returns its
+    /// length.
     #[inline]
     pub fn write_request(&self, out: &mut [u8]) -> Result<usize, Refusal> {
-        // SAFETY: pointer and length are those of one slice, which is borrowed for writing and thus overlaps no other.
+        // SAFETY: pointer and length are those of one slice, which is borrowed for writing and thus overlaps no
+        // other.
         let r = unsafe { raw::ddcci_request(self.numbers, out.as_mut_ptr(), out.len()) };
         Refusal::check(r.answer)?;
         Ok(r.length)
@@ -125,12 +127,12 @@ impl<'a> Transfer<'a> {
 
     /// Receives the bytes that came back, or none.
     ///
-    /// A refusal changes nothing but the count. It closes the transfer where its budget is used up or the text is longer
-    /// than its room; otherwise ask again.
+    /// A refusal changes nothing but the count. It closes the transfer where its budget is used up or the text is
+    /// longer than its room; otherwise ask again.
     #[inline]
     pub fn receive(&mut self, reply: &[u8]) -> Result<(), Refusal> {
-        // SAFETY: each pointer and its length are those of one slice; the buffer is borrowed for writing and thus does
-        // not overlap the reply.
+        // SAFETY: each pointer and its length are those of one slice; the buffer is borrowed for writing and thus
+        // does not overlap the reply.
         self.numbers = unsafe {
             raw::ddcci_receive(self.numbers, self.buffer.as_mut_ptr(), self.buffer.len(), reply.as_ptr(), reply.len())
         };
@@ -179,7 +181,8 @@ impl<'a> Transfer<'a> {
         self.numbers.count
     }
 
-    /// Returns the bytes that came so far: the whole text only where the state is [`State::Done`], else its first part.
+    /// Returns the bytes that came so far: the whole text only where the state is [`State::Done`], else its first
+    /// part.
     pub fn received_so_far(&self) -> &[u8] {
         &self.buffer[..usize::from(self.numbers.offset)]
     }

@@ -1,4 +1,5 @@
-//! The proved capabilities reader against the oracle's: the same answer, place and nodes, and every entry of every buffer.
+//! The proved capabilities reader against the oracle's: the same answer, place and nodes, and every entry of every
+//! buffer.
 mod common;
 use common::rounds;
 use oracle::capabilities as slow;

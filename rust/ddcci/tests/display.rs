@@ -1,4 +1,5 @@
-//! The display beside the oracle's: the same answers, replies, tables and fragments over random histories of messages, whole and damaged.
+//! The display beside the oracle's: the same answers, replies, tables and fragments over random histories of
+//! messages, whole and damaged.
 mod common;
 use common::rounds;
 use ddcci::{Declaration, Display, Request, TextKind, Timing, LONGEST_PROFILE, OUTPUT_ROOM, TABLE_ROOM};

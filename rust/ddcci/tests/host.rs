@@ -1,4 +1,5 @@
-//! The host program on its pipe (docs/DISPLAY-PIPE.md): joined to the display program, over a noisy line, and on bad input.
+//! The host program on its pipe (docs/DISPLAY-PIPE.md): joined to the display program, over a noisy line, and on bad
+//! input.
 mod common;
 use common::{program, rounds};
 use oracle::display::{Display, Timing};
@@ -9,7 +10,8 @@ use std::io::{Read, Write};
 use std::path::Path;
 use std::process::{Child, Command, Stdio};
 
-/// What the host reports where nothing is spoiled. 47 and 48 bytes in fragments of 7: seven of them, and the empty end.
+/// What the host reports where nothing is spoiled. 47 and 48 bytes in fragments of 7: seven of them, and the empty
+/// end.
 const REPORT: &str = "records exchanged: 23
 brightness: 70
 capabilities string: 47 bytes in 8 exchanges; beside what was sent: the same, byte for byte
@@ -92,7 +94,8 @@ struct Sent {
     all: usize,
 }
 
-/// Host and display with the test as the line between them, which spoils that many replies in a hundred by so many fates.
+/// Host and display with the test as the line between them, which spoils that many replies in a hundred by so many
+/// fates.
 fn over_a_line(seed: u64, noise: usize, fates: usize) -> (String, Sent) {
     let mut r = Random::new(seed);
     let mut display = spawn("display_pipe", Stdio::piped(), Stdio::piped());
@@ -191,7 +194,8 @@ fn an_output_that_takes_nothing_gets_one_line_and_a_stop() {
     assert_eq!(said.lines().count(), 1);
 }
 
-/// The conversation that the gate runs the host on (crates/host_pipe/stdin, stdout) is the one that the oracle's display holds.
+/// The conversation that the gate runs the host on (crates/host_pipe/stdin, stdout) is the one that the oracle's
+/// display holds.
 #[test]
 fn the_recorded_conversation_is_the_oracles() {
     let folder = Path::new(env!("CARGO_MANIFEST_DIR")).join("../../crates/host_pipe");

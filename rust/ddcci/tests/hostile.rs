@@ -49,7 +49,8 @@ fn end(offset: u16) -> [u8; 6] {
     [0x6E, 0x83, 0xE4, high, low, 0x50 ^ 0x6E ^ 0x83 ^ 0xE4 ^ high ^ low]
 }
 
-/// What document 01 answers, and the phase and count afterwards, for a transfer of the table and the end at its own offset.
+/// What document 01 answers, and the phase and count afterwards, for a transfer of the table and the end at its own
+/// offset.
 fn expected(n: Numbers, text: u8) -> (u8, u8, u16) {
     let open = n.phase % 4 == RUNNING && n.count < n.budget;
     if n.phase >= 8 {

@@ -32,7 +32,8 @@ settings:
   60 input: 0F 11
 ";
 
-/// Each command in the program's comment is run by the shell, with the program itself for `cargo run --example phone --`.
+/// Each command in the program's comment is run by the shell, with the program itself for `cargo run --example phone
+/// --`.
 #[test]
 fn the_documented_commands() {
     let source = fs::read_to_string(Path::new(env!("CARGO_MANIFEST_DIR")).join("examples/phone.rs")).unwrap();

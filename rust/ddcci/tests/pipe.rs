@@ -1,4 +1,5 @@
-//! The display program on its pipe (docs/DISPLAY-PIPE.md) against the oracle's display: start, declare, every command, profile write and load.
+//! The display program on its pipe (docs/DISPLAY-PIPE.md) against the oracle's display: start, declare, every
+//! command, profile write and load.
 mod common;
 use common::{program, rounds};
 use oracle::display::{Display, Timing};

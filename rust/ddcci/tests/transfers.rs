@@ -1,4 +1,5 @@
-//! Transfers over simulated noisy lines: step for step as the oracle's, with the claims of demand 3 asserted at the end of each list of exchanges.
+//! Transfers over simulated noisy lines: step for step as the oracle's, with the claims of demand 3 asserted at the
+//! end of each list of exchanges.
 mod common;
 use common::rounds;
 use ddcci::{Refusal, Reply, State, TextKind, Transfer, Unfinished};
@@ -33,7 +34,8 @@ struct Run {
     corrupted: usize,
 }
 
-/// One list of exchanges; a fragment of the text at the very offset that is not the display's own reply is taken off the line, as demand 3 supposes.
+/// One list of exchanges; a fragment of the text at the very offset that is not the display's own reply is taken off
+/// the line, as demand 3 supposes.
 fn exchanges(
     r: &mut Random,
     Conditions { kind, text, most, noise }: Conditions<'_>,
@@ -175,8 +177,9 @@ fn a_text_is_handed_out_only_when_it_is_whole() {
     assert_eq!(said, wanted);
 }
 
-/// What demand 3 supposes and no program can see. "12" at offset 0 is 6E 85 E4 00 00 31 32 5C, of which the line flips
-/// bit 0 in two data bytes: the checksum is the same, so the reader accepts it, and a transfer that says done holds "03".
+/// What demand 3 supposes and no program can see. "12" at offset 0 is 6E 85 E4 00 00 31 32 5C, of which the line
+/// flips bit 0 in two data bytes: the checksum is the same, so the reader accepts it, and a transfer that says done
+/// holds "03".
 #[test]
 fn two_flips_of_one_bit_pass_the_checksum() {
     let sent = Reply::TableFragment { offset: 0, data: b"12" }.to_bytes().unwrap();

@@ -1,5 +1,5 @@
-//! The day at the water point (`crates/day`), played again by this implementation: every line that the program must write
-//! (`crates/day/stdout`) is worked out here, from the same list, the same values and the same rule of the line.
+//! The day at the water point (`crates/day`), played again by this implementation: every line that the program must
+//! write (`crates/day/stdout`) is worked out here, from the same list, the same values and the same rule of the line.
 
 use oracle::display::{Display, Timing};
 use oracle::message::*;

@@ -1,4 +1,5 @@
-//! Reading capabilities strings of 300, 600 and 4,096 bytes, beside two one-pass readers into the same lent buffers: the oracle's, which is tuned, and a plain one.
+//! Reading capabilities strings of 300, 600 and 4,096 bytes, beside two one-pass readers into the same lent buffers:
+//! the oracle's, which is tuned, and a plain one.
 use crate::measure::{both, line};
 use std::hint::black_box;
 
@@ -44,7 +45,8 @@ enum State {
     After,
 }
 
-/// A reader as one writes it: one loop over the bytes, a state, a stack of the open groups, and the nodes in the lent buffers. Unlike ours it leaves nodes behind where it refuses.
+/// A reader as one writes it: one loop over the bytes, a state, a stack of the open groups, and the nodes in the lent
+/// buffers. Unlike ours it leaves nodes behind where it refuses.
 #[inline(never)]
 fn plain(text: &[u8], lent: &mut Lent) -> Result<usize, (u8, usize)> {
     let mut count = 0;

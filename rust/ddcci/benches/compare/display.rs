@@ -1,4 +1,5 @@
-//! A step of the display for each message, beside the oracle's by value and by `&mut`. By value a display is copied in, back and into its place.
+//! A step of the display for each message, beside the oracle's by value and by `&mut`. By value a display is copied
+//! in, back and into its place.
 use crate::measure::{line_of_three, three};
 use ddcci::{Declaration, Display, Request, Timing, OUTPUT_ROOM, TABLE_ROOM};
 use oracle::display as slow;

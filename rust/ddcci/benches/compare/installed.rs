@@ -1,4 +1,5 @@
-//! The parsers of libddcutil and libddccontrol on the same capabilities strings, where the two libraries are installed.
+//! The parsers of libddcutil and libddccontrol on the same capabilities strings, where the two libraries are
+//! installed.
 use crate::capabilities::{text, Lent};
 use crate::measure::{both, line};
 use std::ffi::{c_char, c_int, c_void, CStr, CString};

@@ -1,4 +1,5 @@
-//! Paneknoll's proved functions beside the oracle's, in one run: `cargo bench`. Each line is what is measured, Paneknoll, the oracle, and the ratio of the two; of a step of the display also the oracle by `&mut`.
+//! Paneknoll's proved functions beside the oracle's, in one run: `cargo bench`. Each line is what is measured,
+//! Paneknoll, the oracle, and the ratio of the two; of a step of the display also the oracle by `&mut`.
 mod capabilities;
 mod checksum;
 mod display;

@@ -1,4 +1,5 @@
-//! Whole transfers of 1,024 and 4,096 bytes in fragments of 32: asking, and receiving replies that are built beforehand. Either side's caller looks at the answer to each request and each reply.
+//! Whole transfers of 1,024 and 4,096 bytes in fragments of 32: asking, and receiving replies that are built
+//! beforehand. Either side's caller looks at the answer to each request and each reply.
 use crate::measure::{both, line};
 use ddcci::{Message, Reply, State, TextKind, Transfer};
 use oracle::transfer as slow;

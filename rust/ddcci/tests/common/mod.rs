@@ -1,4 +1,5 @@
-//! What the tests share: how long they run, what C programs they compile, and one spelling of both implementations' messages.
+//! What the tests share: how long they run, what C programs they compile, and one spelling of both implementations'
+//! messages.
 #![allow(dead_code)]
 use ddcci::{Refusal, Reply, Request};
 use oracle::message as slow;
@@ -37,7 +38,8 @@ pub const C89: &[&str] = &["cc", "-std=c89"];
 pub const C17: &[&str] = &["cc", "-std=c17"];
 pub const CPP: &[&str] = &["c++", "-std=c++17", "-x", "c++"];
 
-/// A C file compiled by a standard, with the headers and what else is named: another file of the repository, or an option.
+/// A C file compiled by a standard, with the headers and what else is named: another file of the repository, or an
+/// option.
 pub fn compiled_as(standard: &[&str], source: &Path, more: &[&str]) -> PathBuf {
     let name = source.file_stem().expect("a file has a name").to_string_lossy();
     let made = Path::new(env!("CARGO_TARGET_TMPDIR")).join(format!("{name}{}", standard[1]));

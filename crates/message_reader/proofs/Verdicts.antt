@@ -17,9 +17,9 @@ use Rattle.message_rules.specs.Layout.{layoutOf, rowOf}
 use Rattle.message_rules.specs.Frame.{plainRow, bodyLength, frameAnswer}
 use Rattle.message_rules.specs.Message.{requests, replies}
 use Rattle.message_rules.proofs.Rows.{found}
-use Rattle.message_reader.specs.declared.table.RequestRow.the-variants as requestRows
-use Rattle.message_reader.specs.declared.table.ReplyRow.the-variants as replyRows
-use Rattle.message_reader.specs.Table.{shapeOf, lengthRight, requestOf, replyOf, requestRow, replyRow, requestForm, replyForm, requestVerdict, replyVerdict}
+use Rattle.message_reader.specs.declared.table.RequestVerdict.the-variants as request
+use Rattle.message_reader.specs.declared.table.ReplyVerdict.the-variants as reply
+use Rattle.message_reader.specs.Table.{shapeOf, lengthRight, requestOf, replyOf, requestRow, replyRow}
 use Rattle.message_reader.specs.Outcome.{RequestHolds, ReplyHolds}
 use Rattle.message_reader.proofs.Parts.{decode-unknown, decode-length, decode-body, readable}
 
@@ -31,60 +31,52 @@ own : (d : Direction) (k : ℕ) (c : Kind) (l : Layout) → rowOf d k ≡ Known 
 own d k c l p = p ∙ ap (Known c) (found d k c l p .layout)
 
 -- the form of the length byte, by either half of the table and whatever the length
-pub request-form : (k n : ℕ) → requestForm (requestRow (rowOf way.Request k) n) ≡ plainRow (rowOf way.Request k)
+pub request-form : (k n : ℕ) → requestRow (rowOf way.Request k) n .plain ≡ plainRow (rowOf way.Request k)
 request-form k n = go (rowOf way.Request k) refl
   where
-    either : (b p : Bool) (c : RequestKind) → requestForm (cond b (requestRows.Known c p) (requestRows.WrongLength p)) ≡ p
-    either true p c = refl
-    either false p c = refl
-
-    go : (r : Row) → rowOf way.Request k ≡ r → requestForm (requestRow r n) ≡ plainRow r
-    go (Known (kind.Request c) l) p = either (lengthRight (shapeOf l) n) (l .plain) c
+    go : (r : Row) → rowOf way.Request k ≡ r → requestRow r n .plain ≡ plainRow r
+    go (Known (kind.Request c) l) p = refl
     go (Known (kind.Reply c) l) p = never (found way.Request k (kind.Reply c) l p .way)
     go Unknown p = refl
 
-pub reply-form : (k n : ℕ) → replyForm (replyRow (rowOf way.Reply k) n) ≡ plainRow (rowOf way.Reply k)
+pub reply-form : (k n : ℕ) → replyRow (rowOf way.Reply k) n .plain ≡ plainRow (rowOf way.Reply k)
 reply-form k n = go (rowOf way.Reply k) refl
   where
-    either : (b p : Bool) (c : ReplyKind) → replyForm (cond b (replyRows.Known c p) (replyRows.WrongLength p)) ≡ p
-    either true p c = refl
-    either false p c = refl
-
-    go : (r : Row) → rowOf way.Reply k ≡ r → replyForm (replyRow r n) ≡ plainRow r
+    go : (r : Row) → rowOf way.Reply k ≡ r → replyRow r n .plain ≡ plainRow r
     go (Known (kind.Request c) l) p = never (sym (found way.Reply k (kind.Request c) l p .way))
-    go (Known (kind.Reply c) l) p = either (lengthRight (shapeOf l) n) (l .plain) c
+    go (Known (kind.Reply c) l) p = refl
     go Unknown p = refl
 
 module _ (a : Address) (s : List ℕ) (some : 0 < bodyLength s) where
   abbrev number : ℕ
   number = getD s 2 0
 
-  pub request-holds : frameAnswer way.Request a s ≡ 0 → RequestHolds a s (requestVerdict (requestRow (rowOf way.Request number) (bodyLength s)))
+  pub request-holds : frameAnswer way.Request a s ≡ 0 → RequestHolds a s (requestRow (rowOf way.Request number) (bodyLength s) .verdict)
   request-holds e = go (rowOf way.Request number) refl
     where
-      sized : (c : RequestKind) → rowOf way.Request number ≡ Known (kind.Request c) (layoutOf (kind.Request c)) → (p b : Bool) → lengthRight (shapeOf (layoutOf (kind.Request c))) (bodyLength s) ≡ b
-          → RequestHolds a s (requestVerdict (cond b (requestRows.Known c p) (requestRows.WrongLength p)))
-      sized c q p true w = (readable requests a s e some (kind.Request c) q w, decode-body requests a s e some (kind.Request c) q w)
-      sized c q p false w = decode-length requests a s e some (kind.Request c) q w
+      sized : (c : RequestKind) → rowOf way.Request number ≡ Known (kind.Request c) (layoutOf (kind.Request c)) → (b : Bool) → lengthRight (shapeOf (layoutOf (kind.Request c))) (bodyLength s) ≡ b
+          → RequestHolds a s (cond b (request.Known c) (request.Refused 7))
+      sized c q true w = (readable requests a s e some (kind.Request c) q w, decode-body requests a s e some (kind.Request c) q w)
+      sized c q false w = decode-length requests a s e some (kind.Request c) q w
 
-      go : (r : Row) → rowOf way.Request number ≡ r → RequestHolds a s (requestVerdict (requestRow r (bodyLength s)))
+      go : (r : Row) → rowOf way.Request number ≡ r → RequestHolds a s (requestRow r (bodyLength s) .verdict)
       go (Known (kind.Request c) l) p =
-          subst (λ (x : Layout). RequestHolds a s (requestVerdict (requestOf c (shapeOf x) (bodyLength s)))) (sym (found way.Request number (kind.Request c) l p .layout))
-          (sized c (own way.Request number (kind.Request c) l p) _ (lengthRight (shapeOf (layoutOf (kind.Request c))) (bodyLength s)) refl)
+          subst (λ (x : Layout). RequestHolds a s (requestOf c (shapeOf x) (bodyLength s) .verdict)) (sym (found way.Request number (kind.Request c) l p .layout))
+          (sized c (own way.Request number (kind.Request c) l p) (lengthRight (shapeOf (layoutOf (kind.Request c))) (bodyLength s)) refl)
       go (Known (kind.Reply c) l) p = never (found way.Request number (kind.Reply c) l p .way)
       go Unknown p = decode-unknown requests a s e some p
 
-  pub reply-holds : frameAnswer way.Reply a s ≡ 0 → ReplyHolds a s (replyVerdict (replyRow (rowOf way.Reply number) (bodyLength s)))
+  pub reply-holds : frameAnswer way.Reply a s ≡ 0 → ReplyHolds a s (replyRow (rowOf way.Reply number) (bodyLength s) .verdict)
   reply-holds e = go (rowOf way.Reply number) refl
     where
-      sized : (c : ReplyKind) → rowOf way.Reply number ≡ Known (kind.Reply c) (layoutOf (kind.Reply c)) → (p b : Bool) → lengthRight (shapeOf (layoutOf (kind.Reply c))) (bodyLength s) ≡ b
-          → ReplyHolds a s (replyVerdict (cond b (replyRows.Known c p) (replyRows.WrongLength p)))
-      sized c q p true w = (readable replies a s e some (kind.Reply c) q w, decode-body replies a s e some (kind.Reply c) q w)
-      sized c q p false w = decode-length replies a s e some (kind.Reply c) q w
+      sized : (c : ReplyKind) → rowOf way.Reply number ≡ Known (kind.Reply c) (layoutOf (kind.Reply c)) → (b : Bool) → lengthRight (shapeOf (layoutOf (kind.Reply c))) (bodyLength s) ≡ b
+          → ReplyHolds a s (cond b (reply.Known c) (reply.Refused 7))
+      sized c q true w = (readable replies a s e some (kind.Reply c) q w, decode-body replies a s e some (kind.Reply c) q w)
+      sized c q false w = decode-length replies a s e some (kind.Reply c) q w
 
-      go : (r : Row) → rowOf way.Reply number ≡ r → ReplyHolds a s (replyVerdict (replyRow r (bodyLength s)))
+      go : (r : Row) → rowOf way.Reply number ≡ r → ReplyHolds a s (replyRow r (bodyLength s) .verdict)
       go (Known (kind.Reply c) l) p =
-          subst (λ (x : Layout). ReplyHolds a s (replyVerdict (replyOf c (shapeOf x) (bodyLength s)))) (sym (found way.Reply number (kind.Reply c) l p .layout))
-          (sized c (own way.Reply number (kind.Reply c) l p) _ (lengthRight (shapeOf (layoutOf (kind.Reply c))) (bodyLength s)) refl)
+          subst (λ (x : Layout). ReplyHolds a s (replyOf c (shapeOf x) (bodyLength s) .verdict)) (sym (found way.Reply number (kind.Reply c) l p .layout))
+          (sized c (own way.Reply number (kind.Reply c) l p) (lengthRight (shapeOf (layoutOf (kind.Reply c))) (bodyLength s)) refl)
       go (Known (kind.Request c) l) p = never (sym (found way.Reply number (kind.Request c) l p .way))
       go Unknown p = decode-unknown replies a s e some p

@@ -92,7 +92,7 @@ fn tested(a: Address, s: &[u8]) -> ReplyVerdict
     }
     let n = frame::body_length(s);
     let row = table::reply_row(frame::byte_at(s, frame::COMMAND), n);
-    let plain = frame::body_plain(table::reply_form(row), n);
+    let plain = frame::body_plain(row.plain, n);
     let tail = frame::tail_answer(a, plain, s);
     if tail != answer::DONE {
         return ReplyVerdict::Refused(tail);
@@ -100,7 +100,7 @@ fn tested(a: Address, s: &[u8]) -> ReplyVerdict
     if n == 0 {
         return ReplyVerdict::Refused(answer::NULL_MESSAGE);
     }
-    table::reply_verdict(row)
+    row.verdict
 }
 
 // Returns the message of a reply whose tests came to this verdict, or its refusal.

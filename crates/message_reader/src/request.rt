@@ -59,7 +59,7 @@ fn tested(a: Address, s: &[u8]) -> RequestVerdict
     }
     let n = frame::body_length(s);
     let row = table::request_row(frame::byte_at(s, frame::COMMAND), n);
-    let plain = frame::body_plain(table::request_form(row), n);
+    let plain = frame::body_plain(row.plain, n);
     let tail = frame::tail_answer(a, plain, s);
     if tail != answer::DONE {
         return RequestVerdict::Refused(tail);
@@ -67,7 +67,7 @@ fn tested(a: Address, s: &[u8]) -> RequestVerdict
     if n == 0 {
         return RequestVerdict::Refused(answer::UNKNOWN_COMMAND);
     }
-    table::request_verdict(row)
+    row.verdict
 }
 
 // Reads a request that came to an address: returns the message, or the first refusal in the papers' order.

@@ -3,7 +3,7 @@
 ghost use mathlib.Core.Path.{_≡_};
 ghost use Rattle.message_rules.specs.Layout.{rowOf};
 ghost use Rattle.message_rules.specs.declared.Direction.the-variants.{Request, Reply};
-ghost use Rattle.message_reader.specs.Table.{lengthRight, requestOf, replyOf, requestRow, replyRow, requestForm, replyForm, requestVerdict, replyVerdict};
+ghost use Rattle.message_reader.specs.Table.{lengthRight, requestOf, replyOf, unknownRequest, unknownReply, requestRow, replyRow};
 use message_rules::ReplyKind;
 use message_rules::RequestKind;
 use message_rules::answer;
@@ -13,30 +13,28 @@ use message_rules::limits;
 // Then whether the length byte in front of it is plain.
 pub(crate) struct Shape(pub(crate) usize, pub(crate) usize, pub(crate) bool);
 
-// The row of a request's command number for a body of n bytes: its kind and form, or its form if n is wrong for it.
-pub(crate) enum RequestRow {
-    Known(RequestKind, bool),
-    WrongLength(bool),
-    Unknown,
-}
-
-// The row of a reply's command number, likewise.
-pub(crate) enum ReplyRow {
-    Known(ReplyKind, bool),
-    WrongLength(bool),
-    Unknown,
-}
-
-// What the row of a request comes to: its kind, or a refusal.
+// What a command number and the length of the body come to: the kind of a request, or a refusal.
 pub(crate) enum RequestVerdict {
     Known(RequestKind),
     Refused(u8),
 }
 
-// What the row of a reply comes to.
+// What they come to for a reply.
 pub(crate) enum ReplyVerdict {
     Known(ReplyKind),
     Refused(u8),
+}
+
+// The row of a request's command number, for a body of some length: whether the length byte is plain, and the verdict.
+pub(crate) struct RequestRow {
+    pub(crate) plain: bool,
+    pub(crate) verdict: RequestVerdict,
+}
+
+// The row of a reply's command number, likewise.
+pub(crate) struct ReplyRow {
+    pub(crate) plain: bool,
+    pub(crate) verdict: ReplyVerdict,
 }
 
 // Returns whether a body of n bytes is right for the shape.
@@ -52,15 +50,17 @@ fn length_right(shape: Shape, n: usize) -> bool
     true
 }
 
-// Returns the row of this kind and shape for a body of n bytes.
+// Returns the row of this kind and shape for a body of n bytes: 7 for a wrong length.
 fn request_of(kind: RequestKind, shape: Shape, n: usize) -> RequestRow
     ensures { λ r. ⌜ r ≡ requestOf kind shape n ⌝ }
 {
     let plain = shape.2;
     if length_right(shape, n) {
-        return RequestRow::Known(kind, plain);
+        let verdict = RequestVerdict::Known(kind);
+        return RequestRow { plain, verdict };
     }
-    RequestRow::WrongLength(plain)
+    let verdict = RequestVerdict::Refused(answer::WRONG_FIELD);
+    RequestRow { plain, verdict }
 }
 
 // Returns the row of this kind and shape, likewise.
@@ -69,9 +69,33 @@ fn reply_of(kind: ReplyKind, shape: Shape, n: usize) -> ReplyRow
 {
     let plain = shape.2;
     if length_right(shape, n) {
-        return ReplyRow::Known(kind, plain);
+        let verdict = ReplyVerdict::Known(kind);
+        return ReplyRow { plain, verdict };
     }
-    ReplyRow::WrongLength(plain)
+    let verdict = ReplyVerdict::Refused(answer::WRONG_FIELD);
+    ReplyRow { plain, verdict }
+}
+
+// Returns the row of a number that is not in the table: 6.
+fn unknown_request() -> RequestRow
+    ensures { λ r. ⌜ r ≡ unknownRequest ⌝ }
+{
+    let verdict = RequestVerdict::Refused(answer::UNKNOWN_COMMAND);
+    RequestRow {
+        plain: false,
+        verdict,
+    }
+}
+
+// Returns the row of such a number for a reply.
+fn unknown_reply() -> ReplyRow
+    ensures { λ r. ⌜ r ≡ unknownReply ⌝ }
+{
+    let verdict = ReplyVerdict::Refused(answer::UNKNOWN_COMMAND);
+    ReplyRow {
+        plain: false,
+        verdict,
+    }
 }
 
 // Returns the row of a request by its command number, for a body of n bytes. No request has a plain length byte.
@@ -98,7 +122,7 @@ pub(crate) fn request_row(number: u8, n: usize) -> RequestRow
         | 0x0D..=0xE1
         | 0xE3..=0xE6
         | 0xE8..=0xF2
-        | 0xF4..=0xFF => RequestRow::Unknown,
+        | 0xF4..=0xFF => unknown_request(),
     }
 }
 
@@ -119,50 +143,6 @@ pub(crate) fn reply_row(number: u8, n: usize) -> ReplyRow
             Shape(3, limits::MOST_FRAGMENT, false),
             n,
         ),
-        0x00..=0x01 | 0x03..=0x4D | 0x4F..=0xE2 | 0xE5..=0xFF => ReplyRow::Unknown,
-    }
-}
-
-// Returns whether a request of this row has a plain length byte.
-pub(crate) fn request_form(row: RequestRow) -> bool
-    ensures { λ r. ⌜ r ≡ requestForm row ⌝ }
-{
-    match row {
-        RequestRow::Known(_, plain) => plain,
-        RequestRow::WrongLength(plain) => plain,
-        RequestRow::Unknown => false,
-    }
-}
-
-// Returns whether a reply of this row has a plain length byte.
-pub(crate) fn reply_form(row: ReplyRow) -> bool
-    ensures { λ r. ⌜ r ≡ replyForm row ⌝ }
-{
-    match row {
-        ReplyRow::Known(_, plain) => plain,
-        ReplyRow::WrongLength(plain) => plain,
-        ReplyRow::Unknown => false,
-    }
-}
-
-// Returns the kind of a request; 7 for a wrong length, 6 for a number that has no row.
-pub(crate) fn request_verdict(row: RequestRow) -> RequestVerdict
-    ensures { λ r. ⌜ r ≡ requestVerdict row ⌝ }
-{
-    match row {
-        RequestRow::Known(kind, _) => RequestVerdict::Known(kind),
-        RequestRow::WrongLength(_) => RequestVerdict::Refused(answer::WRONG_FIELD),
-        RequestRow::Unknown => RequestVerdict::Refused(answer::UNKNOWN_COMMAND),
-    }
-}
-
-// Returns the kind of a reply, likewise.
-pub(crate) fn reply_verdict(row: ReplyRow) -> ReplyVerdict
-    ensures { λ r. ⌜ r ≡ replyVerdict row ⌝ }
-{
-    match row {
-        ReplyRow::Known(kind, _) => ReplyVerdict::Known(kind),
-        ReplyRow::WrongLength(_) => ReplyVerdict::Refused(answer::WRONG_FIELD),
-        ReplyRow::Unknown => ReplyVerdict::Refused(answer::UNKNOWN_COMMAND),
+        0x00..=0x01 | 0x03..=0x4D | 0x4F..=0xE2 | 0xE5..=0xFF => unknown_reply(),
     }
 }

@@ -23,6 +23,9 @@ reply-of-requires-3 c κs = search needs
 reply-of-requires-4 : tie.Need-reply-of-requires-4
 reply-of-requires-4 c κs = search needs
 
+unknown-reply-requires : tie.Need-unknown-reply-requires
+unknown-reply-requires c κs = search needs
+
 returns : tie.Need-returns
 returns c = c .reply-of .ensures ∙ sym (ap (λ (k : ℕ). replyRow (rowOf way.Reply k) (c .before .before .args .n)) (c .before .match .keys1))
 
@@ -36,7 +39,9 @@ returns-4 : tie.Need-returns-4
 returns-4 c = c .reply-of4 .ensures ∙ sym (ap (λ (k : ℕ). replyRow (rowOf way.Reply k) (c .before .before .args .n)) (c .before .match .keys4))
 
 returns-5 : tie.Need-returns-5
-returns-5 c = let r = c .match .rest in sym (ap (λ (x : Row). replyRow x (c .before .args .n)) (reply-unknown (c .before .args .number) (r .0 .0 .0 .1) (r .0 .0 .1) (r .0 .1) (r .1)))
+returns-5 c =
+    let r = c .before .match .rest in
+    c .unknown-reply .ensures ∙ sym (ap (λ (x : Row). replyRow x (c .before .before .args .n)) (reply-unknown (c .before .before .args .number) (r .0 .0 .0 .1) (r .0 .0 .1) (r .0 .1) (r .1)))
 
 pub reply-row-spec : {M : Type 1} → statement M
 reply-row-spec =
@@ -46,6 +51,7 @@ reply-row-spec =
     reply-of-requires-2
     reply-of-requires-3
     reply-of-requires-4
+    unknown-reply-requires
     returns
     returns-2
     returns-3

@@ -33,6 +33,9 @@ request-of-requires-6 c κs = search needs
 request-of-requires-7 : tie.Need-request-of-requires-7
 request-of-requires-7 c κs = search needs
 
+unknown-request-requires : tie.Need-unknown-request-requires
+unknown-request-requires c κs = search needs
+
 returns : tie.Need-returns
 returns c = c .request-of .ensures ∙ sym (ap (λ (k : ℕ). requestRow (rowOf way.Request k) (c .before .before .args .n)) (c .before .match .keys1))
 
@@ -55,12 +58,14 @@ returns-7 : tie.Need-returns-7
 returns-7 c = c .request-of7 .ensures ∙ sym (ap (λ (k : ℕ). requestRow (rowOf way.Request k) (c .before .before .args .n)) (c .before .match .keys7))
 
 returns-8 : tie.Need-returns-8
-returns-8 c = ⊎-elim (λ e. sym (ap (λ (k : ℕ). requestRow (rowOf way.Request k) (c .before .args .n)) e)) (λ e. sym (ap (λ (k : ℕ). requestRow (rowOf way.Request k) (c .before .args .n)) e)) (c .match .keys8)
-
-returns-9 : tie.Need-returns-9
-returns-9 c =
-    let r = c .match .rest in
-    sym (ap (λ (x : Row). requestRow x (c .before .args .n)) (request-unknown (c .before .args .number) (r .0 .0 .0 .0 .0 .0 .0 .1) (r .0 .0 .0 .0 .0 .0 .1) (r .0 .0 .0 .0 .0 .1) (r .0 .0 .0 .0 .1) (r .0 .0 .0 .1) (r .0 .0 .1) (r .0 .1)))
+returns-8 c =
+    let n = c .before .before .args .n in
+    let k = c .before .before .args .number in
+    c .unknown-request .ensures
+    ∙ sym (⊎-elim
+    (λ h. ⊎-elim (λ e. ap (λ (x : ℕ). requestRow (rowOf way.Request x) n) e) (λ e. ap (λ (x : ℕ). requestRow (rowOf way.Request x) n) e) (h .keys8))
+    (λ h. let r = h .rest in ap (λ (x : Row). requestRow x n) (request-unknown k (r .0 .0 .0 .0 .0 .0 .0 .1) (r .0 .0 .0 .0 .0 .0 .1) (r .0 .0 .0 .0 .0 .1) (r .0 .0 .0 .0 .1) (r .0 .0 .0 .1) (r .0 .0 .1) (r .0 .1)))
+    (c .before .match .came))
 
 pub request-row-spec : {M : Type 1} → statement M
 request-row-spec =
@@ -73,6 +78,7 @@ request-row-spec =
     request-of-requires-5
     request-of-requires-6
     request-of-requires-7
+    unknown-request-requires
     returns
     returns-2
     returns-3
@@ -80,5 +86,4 @@ request-row-spec =
     returns-5
     returns-6
     returns-7
-    returns-8
-    returns-9)
+    returns-8)

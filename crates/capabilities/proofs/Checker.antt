@@ -7,6 +7,7 @@ use native.Mathlib.Omega.{arith}
 use lib.Dec.{eqb}
 use lib.ListN.{length, getD, drop}
 use borrow.Author.Tests.{eqb-false}
+use Rattle.message_rules.specs.declared.Position.{Position}
 use Rattle.message_rules.specs.Answer.{wrongGrammar, noNodeRoom, tooDeep}
 use Rattle.capabilities_rules.specs.Limits.{deepest}
 use Rattle.capabilities_rules.specs.Machine.{kindOf, isLetter, inside, actOf}
@@ -35,15 +36,17 @@ pub record Going (room d start count at n : ℕ) (s : List ℕ) : Type 0 where
 pub tight-after : (s : List ℕ) (at next : ℕ) → next ≡ at + spaces (drop at s) → spaces (drop next s) ≡ 0
 tight-after s at next e = subst (λ (i : ℕ). spaces (drop i s) ≡ 0) (sym e) (run-over spaces (λ b. eqb b 0x20) counts-spaces s (spaces (drop at s)) at refl)
 
-pub started : (room d start count at : ℕ) (s : List ℕ) → at ≡ start + spaces (drop start s) → at ≤ length s → count ≤ room → Going room d start count at count s
-started room d start count at s e ends fits = record {
-  same = free-spaces d s start at e .judged room count;
-  begun = omega arith;
-  ends = ends;
-  grows = omega arith;
-  fits = fits;
-  tight = tight-after s start at e;
-}
+-- past the spaces at the front of its list it has only begun ..
+pub began : (room d start count at : ℕ) (s : List ℕ) → at ≡ start + spaces (drop start s) → at ≤ length s → count ≤ room → Going room d at count at count s
+began room d start count at s e ends fits = record { same = refl; begun = omega arith; ends = ends; grows = omega arith; fits = fits; tight = tight-after s start at e }
+
+-- .. and what it finds from there it finds from the list's start
+earlier : (room start at count : ℕ) (s : List ℕ) (r : Group) → start ≤ at → Within room at count s r → Within room start count s r
+earlier room start at count s (Closed next n) h w = (omega (arith, w .0), w .1, w .2, w .3)
+earlier room start at count s (Stopped k p) h w = tt
+
+pub from-start : (room d start count at : ℕ) (s : List ℕ) (r : Group) → at ≡ start + spaces (drop start s) → Checked room at count d s r → Checked room start count d s r
+from-start room d start count at s r e c = record { answer = free-spaces d s start at e .judged room count ∙ c .answer; within = earlier room start at count s r (omega arith) (c .within) }
 
 pub closes : (b : ℕ) → b ≡ 0x29 → Leave ≡ actOf Free (kindOf b)
 unfolding kindOf
@@ -61,22 +64,22 @@ module _ (room d start count at n : ℕ) (s : List ℕ) (g : Going room d start 
   pub not-space : at < length s → getD s at 0 ≡ 0x20 → ⊥
   not-space h = eqb-false (getD s at 0) 0x20 (none-here spaces (λ b. eqb b 0x20) counts-spaces s at h (g .tight))
 
-  pub at-close : at < length s → getD s at 0 ≡ 0x29 → Checked room start count d s (Closed (at + 1) n)
+  pub at-close : at < length s → getD s at 0 ≡ 0x29 → Checked room start count d s (Closed (record { 0 = at + 1 }) n)
   at-close h e = record {
     answer = g .same ∙ go-out room at n d Free s h (closes (getD s at 0) e);
     within = (omega (arith, g .begun), omega arith, g .grows, g .fits);
   }
 
-  pub at-other : at < length s → (getD s at 0 ≡ 0x29 → ⊥) → isLetter (kindOf (getD s at 0)) ≡ false → Checked room start count d s (Stopped wrongGrammar at)
+  pub at-other : at < length s → (getD s at 0 ≡ 0x29 → ⊥) → isLetter (kindOf (getD s at 0)) ≡ false → Checked room start count d s (Stopped wrongGrammar (record { 0 = at }))
   at-other h nc nl = record {
     answer = g .same ∙ stop-bad room at n d Free s h (unfit (getD s at 0) (kindOf (getD s at 0)) (kind-is (getD s at 0)) nc (not-space h) nl);
     within = tt;
   }
 
-  pub at-full : at < length s → isLetter (kindOf (getD s at 0)) ≡ true → room ≤ n → Checked room start count d s (Stopped noNodeRoom at)
+  pub at-full : at < length s → isLetter (kindOf (getD s at 0)) ≡ true → room ≤ n → Checked room start count d s (Stopped noNodeRoom (record { 0 = at }))
   at-full h l full = record { answer = g .same ∙ stop-full room at n d Free s h (begins-free (kindOf (getD s at 0)) l) full; within = tt }
 
-  pub at-end : length s ≤ at → Checked room start count d s (Stopped wrongGrammar at)
+  pub at-end : length s ≤ at → Checked room start count d s (Stopped wrongGrammar (record { 0 = at }))
   at-end h = record { answer = g .same ∙ judge-end room at n d Free s h; within = tt }
 
   module _ (end next : ℕ) (w : Passed s at end next) (more : n < room) where
@@ -87,7 +90,7 @@ module _ (room d start count at n : ℕ) (s : List ℕ) (g : Going room d start 
     up-to : judge room start count (inside d Free) (drop start s) ≡ judge room next (n + 1) (inside d (behind s at end next w)) (drop next s)
     up-to = word ∙ passed s at end next w d .judged room (n + 1)
 
-    pub at-deep : getD s next 0 ≡ 0x28 → deepest ≤ suc d → Checked room start count d s (Stopped tooDeep next)
+    pub at-deep : getD s next 0 ≡ 0x28 → deepest ≤ suc d → Checked room start count d s (Stopped tooDeep (record { 0 = next }))
     at-deep e deep = record { answer = up-to ∙ stop-deep room next (n + 1) d (behind s at end next w) s (within s next e) (enters s at end next w e) (omega arith); within = tt }
 
     pub past-word : next ≤ length s → (getD s next 0 ≡ 0x28 → ⊥) → Going room d start count next (n + 1) s
@@ -108,20 +111,20 @@ module _ (room d start count at n : ℕ) (s : List ℕ) (g : Going room d start 
           ∙ subst (λ (j : ℕ). judge room (next + 1) (n + 1) (inside j Free) (drop (next + 1) s) ≡ resumed room j s r) deeper (inner .answer)
           ∙ ap (resumed room (suc d) s) same
 
-      pub inner-stops : (k p : ℕ) → r ≡ Stopped k p → Checked room start count d s (Stopped k p)
+      pub inner-stops : (k : ℕ) (p : Position) → r ≡ Stopped k p → Checked room start count d s (Stopped k p)
       inner-stops k p same = record { answer = found (Stopped k p) same; within = tt }
 
-      pub inner-bounds : (past made : ℕ) → r ≡ Closed past made → Within room (next + 1) (n + 1) s (Closed past made)
+      pub inner-bounds : (past : Position) (made : ℕ) → r ≡ Closed past made → Within room (next + 1) (n + 1) s (Closed past made)
       inner-bounds past made same = subst (Within room (next + 1) (n + 1) s) same (inner .within)
 
-      pub past-group : (past made at′ : ℕ) → r ≡ Closed past made → at′ ≡ past + spaces (drop past s) → at′ ≤ length s → Going room d start count at′ made s
+      pub past-group : (past : Position) (made at′ : ℕ) → r ≡ Closed past made → at′ ≡ past .0 + spaces (drop (past .0) s) → at′ ≤ length s → Going room d start count at′ made s
       past-group past made at′ same skip h =
           let b = inner-bounds past made same in
           record {
-            same = found (Closed past made) same ∙ free-spaces d s past at′ skip .judged room made;
+            same = found (Closed past made) same ∙ free-spaces d s (past .0) at′ skip .judged room made;
             begun = omega (arith, g .begun, w .ends, w .rests);
             ends = h;
             grows = omega (arith, g .grows);
             fits = b .3;
-            tight = tight-after s past at′ skip;
+            tight = tight-after s (past .0) at′ skip;
           }

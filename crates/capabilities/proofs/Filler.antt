@@ -94,19 +94,29 @@ pub record Filling (room d start count parent at n : ℕ) (s : List ℕ) (t₀ t
   pub sizes : SameSize t₀ t
   pub tight : spaces (drop at s) ≡ 0
 
-pub started : (room d start count parent at : ℕ) (s : List ℕ) (t : Buffers) → at ≡ start + spaces (drop start s) → at ≤ length s → count ≤ room
-    → isAccepted (judge room start count (inside d Free) (drop start s)) ≡ true → Filling room d start count parent at count s t t
-started room d start count parent at s t e ends fits read =
-    let p = free-spaces d s start at e in
-    record {
-      read = sym (ap isAccepted (p .judged room count)) ∙ read;
-      same = λ ps. ap (stored t count) (p .noded count (parent ∷ ps));
-      begun = omega arith;
-      ends = ends;
-      fits = fits;
-      sizes = record { starts = refl; lengths = refl; parents = refl; groups = refl };
-      tight = tight-after s start at e;
-    }
+-- past the spaces at the front of its list it has only begun ..
+pub began : (room d start count parent at : ℕ) (s : List ℕ) (t : Buffers) → at ≡ start + spaces (drop start s) → at ≤ length s → count ≤ room
+    → isAccepted (judge room start count (inside d Free) (drop start s)) ≡ true → Filling room d at count parent at count s t t
+began room d start count parent at s t e ends fits read = record {
+  read = sym (ap isAccepted (free-spaces d s start at e .judged room count)) ∙ read;
+  same = λ ps. refl;
+  begun = omega arith;
+  ends = ends;
+  fits = fits;
+  sizes = record { starts = refl; lengths = refl; parents = refl; groups = refl };
+  tight = tight-after s start at e;
+}
+
+-- .. and what it stores from there it stores from the list's start
+pub from-start : (left start count parent at : ℕ) (s : List ℕ) (t t′ : Buffers) (next n : ℕ) → at ≡ start + spaces (drop start s)
+    → Filled at left count parent s t t′ next n → Filled start left count parent s t t′ next n
+from-start left start count parent at s t t′ next n e f = record {
+  past = omega (arith, f .past);
+  ends = f .ends;
+  fits = f .fits;
+  read = f .read;
+  same = λ ps. ap (stored t count) (free-spaces (around left) s start at e .noded count (parent ∷ ps)) ∙ f .same ps;
+}
 
 -- where no word could take a group, an accepted byte that is no ")" and no space is a letter
 fit : (b : ℕ) (κ : ByteKind) → KindIs b κ → (b ≡ 0x29 → ⊥) → (b ≡ 0x20 → ⊥) → (Refuse ≡ actOf Free κ → ⊥) → isLetter κ ≡ true

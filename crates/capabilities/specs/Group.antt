@@ -28,12 +28,12 @@ around left = deepest - 1 - left
 
 -- what reading a string answers once the group that d groups stand around has been checked
 abbrev pub resumed : (room d : ℕ) → List ℕ → Group → Reading
-resumed room d s (Closed next count) = judge room next count (leaving d) (drop next s)
-resumed room d s (Stopped k at) = refused k at
+resumed room d s (Closed next count) = judge room (next .0) count (leaving d) (drop (next .0) s)
+resumed room d s (Stopped k at) = refused k (at .0)
 
 -- a group that began at `at` with `count` nodes made closes past `at`, within the string and the room
 abbrev pub Within : (room at count : ℕ) → List ℕ → Group → Type 0
-Within room at count s (Closed next n) = (at < next) × (next ≤ length s) × (count ≤ n) × (n ≤ room)
+Within room at count s (Closed next n) = (at < next .0) × (next .0 ≤ length s) × (count ≤ n) × (n ≤ room)
 Within room at count s (Stopped k p) = Unit {0}
 
 -- the checker of a group: judging on from where it began is judging on from what it found

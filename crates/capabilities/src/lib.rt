@@ -33,17 +33,18 @@ const LAST_LETTER: u8 = 0x7e;
 // What the checker of a group finds.
 enum Group {
     // The position past its ")", and the nodes made by then.
-    Closed(usize, usize),
+    Closed(Position, usize),
     // The answer number, and the position that is refused.
-    Stopped(u8, usize),
+    Stopped(u8, Position),
 }
 
 // The position past a group, and the nodes made by then.
 struct Past {
-    next: usize,
+    next: Position,
     count: usize,
 }
 
+// Returns whether a byte is a letter: 21 to 7E, other than the two brackets.
 fn is_letter(b: u8) -> bool
     ensures { λ r. ⌜ r ≡ isLetter (kindOf b) ⌝ }
 {
@@ -59,87 +60,92 @@ fn is_letter(b: u8) -> bool
     b <= LAST_LETTER
 }
 
-// The position past the letters that stand from `start` on.
-fn word_end(text: &[u8], start: usize) -> usize
-    requires { ⌜ start ≤ length (now text) ⌝ }
-    ensures { λ r. ⌜ (r ≡ start + letters (drop start (now (text .entry)))) × (r ≤ length (now (text .entry))) ⌝ }
+// Returns the position past the letters that stand from `start` on.
+fn word_end(text: &[u8], start: Position) -> Position
+    requires { ⌜ start .0 ≤ length (now text) ⌝ }
+    ensures { λ r. ⌜ (r .0 ≡ start .0 + letters (drop (start .0) (now (text .entry)))) × (r .0 ≤ length (now (text .entry))) ⌝ }
 {
-    let mut at = start;
+    let mut at = start.0;
     while at < text.len() {
         if is_letter(text[at]) {
             at += 1;
         } else {
-            return at;
+            return Position(at);
         }
     }
-    at
+    Position(at)
 }
 
-// The position past the spaces that stand from `start` on.
-fn skip_spaces(text: &[u8], start: usize) -> usize
-    requires { ⌜ start ≤ length (now text) ⌝ }
-    ensures { λ r. ⌜ (r ≡ start + spaces (drop start (now (text .entry)))) × (r ≤ length (now (text .entry))) ⌝ }
+// Returns the position past the spaces that stand from `start` on.
+fn skip_spaces(text: &[u8], start: Position) -> Position
+    requires { ⌜ start .0 ≤ length (now text) ⌝ }
+    ensures { λ r. ⌜ (r .0 ≡ start .0 + spaces (drop (start .0) (now (text .entry)))) × (r .0 ≤ length (now (text .entry))) ⌝ }
 {
-    let mut at = start;
+    let mut at = start.0;
     while at < text.len() {
         if text[at] == SPACE {
             at += 1;
         } else {
-            return at;
+            return Position(at);
         }
     }
-    at
+    Position(at)
 }
 
-// Whether a "(" stands at `at`.
-fn opens_at(text: &[u8], at: usize) -> bool
-    ensures { λ r. ⌜ r ≡ eqb (getD (now (text .entry)) at 0) 0x28 ⌝ }
+// Returns whether a "(" stands at a position.
+fn opens_at(text: &[u8], position: Position) -> bool
+    ensures { λ r. ⌜ r ≡ eqb (getD (now (text .entry)) (position .0) 0) 0x28 ⌝ }
 {
+    let at = position.0;
     if at < text.len() {
         return text[at] == OPEN;
     }
     false
 }
 
-// Checks the group whose list begins at `start`, with `left` levels left inside it, `count` nodes made, and `room` for nodes.
-fn check_group(text: &[u8], start: usize, left: usize, count: usize, room: usize) -> Group
-    requires { ⌜ (start ≤ length (now text)) × (left < deepest) × (count ≤ room) ⌝ }
-    ensures { λ r. ⌜ Checked room start count (around left) (now (text .entry)) r ⌝ }
+// Returns what the checker finds in the group whose list begins at `start`.
+// `left` levels are left inside it, `count` nodes are made by then, and there is room for `room`.
+fn check_group(text: &[u8], start: Position, left: usize, count: usize, room: usize) -> Group
+    requires { ⌜ (start .0 ≤ length (now text)) × (left < deepest) × (count ≤ room) ⌝ }
+    ensures { λ r. ⌜ Checked room (start .0) count (around left) (now (text .entry)) r ⌝ }
 {
-    let mut at = skip_spaces(text, start);
+    let mut position = skip_spaces(text, start);
     let mut n = count;
-    while at < text.len() {
+    while position.0 < text.len() {
+        let at = position.0;
+        let past = at + 1;
         if text[at] == CLOSE {
-            return Group::Closed(at + 1, n);
+            return Group::Closed(Position(past), n);
         }
         if !is_letter(text[at]) {
-            return Group::Stopped(answer::WRONG_GRAMMAR, at);
+            return Group::Stopped(answer::WRONG_GRAMMAR, position);
         }
         if room <= n {
-            return Group::Stopped(answer::NO_NODE_ROOM, at);
+            return Group::Stopped(answer::NO_NODE_ROOM, position);
         }
-        let next = skip_spaces(text, word_end(text, at + 1));
+        let next = skip_spaces(text, word_end(text, Position(past)));
         if opens_at(text, next) {
             if left == 0 {
                 return Group::Stopped(answer::TOO_DEEP, next);
             }
-            let inner = check_group(text, next + 1, left - 1, n + 1, room);
+            let list = next.0 + 1;
+            let inner = check_group(text, Position(list), left - 1, n + 1, room);
             match inner {
-                Group::Closed(past, made) => {
-                    at = skip_spaces(text, past);
+                Group::Closed(behind, made) => {
+                    position = skip_spaces(text, behind);
                     n = made;
                 }
                 Group::Stopped(number, place) => return Group::Stopped(number, place),
             }
         } else {
-            at = next;
+            position = next;
             n += 1;
         }
     }
-    Group::Stopped(answer::WRONG_GRAMMAR, at)
+    Group::Stopped(answer::WRONG_GRAMMAR, position)
 }
 
-// Whether a node has a group, as a buffer holds it.
+// Returns whether a node has a group, as a buffer holds it.
 fn flag(has: bool) -> u8
     ensures { λ r. ⌜ r ≡ cond has 1 0 ⌝ }
 {
@@ -149,8 +155,8 @@ fn flag(has: bool) -> u8
 // Stores the node of the word from `start` to `end` as entry n.
 fn put_node(
     n: usize,
-    start: usize,
-    end: usize,
+    start: Position,
+    end: Position,
     parent: u16,
     opens: bool,
     starts: &mut [u16],
@@ -158,19 +164,20 @@ fn put_node(
     parents: &mut [u16],
     groups: &mut [u8],
 )
-    requires { ⌜ (start ≤ end) × (end ≤ longestText) × (n < bufferRoom (buffers (now starts) (now lengths) (now parents) (now groups))) ⌝ }
-    ensures { λ _. ⌜ buffers (now (starts .exit)) (now (lengths .exit)) (now (parents .exit)) (now (groups .exit)) ≡ put (buffers (now (starts .entry)) (now (lengths .entry)) (now (parents .entry)) (now (groups .entry))) n (node start (end - start) parent (cond opens 1 0)) ⌝ }
+    requires { ⌜ (start .0 ≤ end .0) × (end .0 ≤ longestText) × (n < bufferRoom (buffers (now starts) (now lengths) (now parents) (now groups))) ⌝ }
+    ensures { λ _. ⌜ buffers (now (starts .exit)) (now (lengths .exit)) (now (parents .exit)) (now (groups .exit)) ≡ put (buffers (now (starts .entry)) (now (lengths .entry)) (now (parents .entry)) (now (groups .entry))) n (node (start .0) (end .0 - start .0) parent (cond opens 1 0)) ⌝ }
 {
-    starts[n] = start as u16;
-    lengths[n] = (end - start) as u16;
+    starts[n] = start.0 as u16;
+    lengths[n] = (end.0 - start.0) as u16;
     parents[n] = parent;
     groups[n] = flag(opens);
 }
 
 // Stores the nodes of an accepted string's group whose list begins at `start`.
+// Returns the position past its ")", and the nodes made by then.
 fn fill_group(
     text: &[u8],
-    start: usize,
+    start: Position,
     left: usize,
     parent: u16,
     count: usize,
@@ -179,26 +186,39 @@ fn fill_group(
     parents: &mut [u16],
     groups: &mut [u8],
 ) -> Past
-    requires { ⌜ Fillable start left count (now text) (buffers (now starts) (now lengths) (now parents) (now groups)) ⌝ }
-    ensures { λ r. ⌜ Filled start left count parent (now (text .entry)) (buffers (now (starts .entry)) (now (lengths .entry)) (now (parents .entry)) (now (groups .entry))) (buffers (now (starts .exit)) (now (lengths .exit)) (now (parents .exit)) (now (groups .exit))) (r .next) (r .count) ⌝ }
+    requires { ⌜ Fillable (start .0) left count (now text) (buffers (now starts) (now lengths) (now parents) (now groups)) ⌝ }
+    ensures { λ r. ⌜ Filled (start .0) left count parent (now (text .entry)) (buffers (now (starts .entry)) (now (lengths .entry)) (now (parents .entry)) (now (groups .entry))) (buffers (now (starts .exit)) (now (lengths .exit)) (now (parents .exit)) (now (groups .exit))) (r .next .0) (r .count) ⌝ }
 {
-    let mut at = skip_spaces(text, start);
+    let mut position = skip_spaces(text, start);
     let mut n = count;
-    while at < text.len() {
+    while position.0 < text.len() {
+        let at = position.0;
+        let past = at + 1;
         if text[at] == CLOSE {
             return Past {
-                next: at + 1,
+                next: Position(past),
                 count: n,
             };
         }
-        let end = word_end(text, at + 1);
+        let end = word_end(text, Position(past));
         let next = skip_spaces(text, end);
         let opens = opens_at(text, next);
-        put_node(n, at, end, parent, opens, starts, lengths, parents, groups);
+        put_node(
+            n,
+            position,
+            end,
+            parent,
+            opens,
+            starts,
+            lengths,
+            parents,
+            groups,
+        );
         if opens {
+            let list = next.0 + 1;
             let inner = fill_group(
                 text,
-                next + 1,
+                Position(list),
                 left - 1,
                 n as u16,
                 n + 1,
@@ -207,31 +227,35 @@ fn fill_group(
                 parents,
                 groups,
             );
-            at = skip_spaces(text, inner.next);
+            position = skip_spaces(text, inner.next);
             n = inner.count;
         } else {
-            at = next;
+            position = next;
             n += 1;
         }
     }
     // Not reached in an accepted string.
-    Past { next: at, count: n }
+    Past {
+        next: position,
+        count: n,
+    }
 }
 
+// Returns the lesser of two numbers.
 fn least(a: usize, b: usize) -> usize
     ensures { λ r. ⌜ r ≡ min a b ⌝ }
 {
     if a <= b { a } else { b }
 }
 
-// The room for nodes, from the lengths of the four buffers.
+// Returns the room for nodes, from the lengths of the four buffers.
 fn room_of(a: usize, b: usize, c: usize, d: usize) -> usize
     ensures { λ r. ⌜ r ≡ roomOf a b c d ⌝ }
 {
     least(MOST_NODES, least(least(a, b), least(c, d)))
 }
 
-// The answer to a string, with room for `room` nodes.
+// Returns the answer to a string, with room for `room` nodes.
 fn check(text: &[u8], room: usize) -> Reading
     ensures { λ r. ⌜ r ≡ outcome room (now (text .entry)) ⌝ }
 {
@@ -244,20 +268,21 @@ fn check(text: &[u8], room: usize) -> Reading
     if text[0] != OPEN {
         return Reading::Refused(answer::WRONG_GRAMMAR, Position(0));
     }
-    let outer = check_group(text, 1, DEEPEST - 1, 0, room);
+    let outer = check_group(text, Position(1), DEEPEST - 1, 0, room);
     match outer {
         Group::Closed(next, count) => {
-            if next < text.len() {
-                Reading::Refused(answer::WRONG_GRAMMAR, Position(next))
+            if next.0 < text.len() {
+                Reading::Refused(answer::WRONG_GRAMMAR, next)
             } else {
                 Reading::Accepted(count)
             }
         }
-        Group::Stopped(number, place) => Reading::Refused(number, Position(place)),
+        Group::Stopped(number, place) => Reading::Refused(number, place),
     }
 }
 
-// Reads a capabilities string: the number of nodes, with the nodes in the lent buffers; or the refusal and its position.
+// Reads a capabilities string, and stores its nodes in the lent buffers where it is accepted.
+// Returns the number of nodes, or the refusal's answer number and position.
 pub fn read(
     text: &[u8],
     starts: &mut [u16],
@@ -273,7 +298,7 @@ pub fn read(
         Reading::Accepted(count) => {
             fill_group(
                 text,
-                1,
+                Position(1),
                 DEEPEST - 1,
                 NO_PARENT,
                 0,

@@ -13,7 +13,7 @@ use borrow.Fn.PlainCycle.{Measures, is, falls, and}
 use Rattle.capabilities_rules.specs.Machine.{kindOf, isLetter}
 use Rattle.capabilities.specs.Group.{around}
 use Rattle.capabilities.proofs.Runs.{Passed, within}
-use Rattle.capabilities.proofs.Checker.{Going, started, at-close, at-other, at-full, at-end, at-deep, past-word, inner-stops, inner-bounds, past-group}
+use Rattle.capabilities.proofs.Checker.{Going, began, from-start, at-close, at-other, at-full, at-end, at-deep, past-word, inner-stops, inner-bounds, past-group}
 use Rattle.capabilities.proofs.+check_group.{statement}
 use Rattle.capabilities.proofs.+check_group.Tie.{close}
 use Rattle.capabilities.proofs.check_group.Reads as check-group
@@ -41,29 +41,29 @@ given t =
     (skip-spaces-reads.Asked, skip-spaces-reads.Learnt, is-letter-reads.Asked, is-letter-reads.Learnt, word-end-reads.Asked, word-end-reads.Learnt, opens-at-reads.Asked, opens-at-reads.Learnt, check-group-below t, check-group.Post)
 
 abbrev check-group-Inv-loop : check-group-lts.InvT-loop
-check-group-Inv-loop text start left count room at₀ n₀ at n = Going room (around left) start count at n text
+check-group-Inv-loop text left count room position₀ n₀ position n = Going room (around left) (position₀ .0) count (position .0) n text
 
 abbrev check-group-μ-loop : check-group-lts.MeasureT-loop
-check-group-μ-loop text start left count room at₀ n₀ at n = length text - at
+check-group-μ-loop text left count room position₀ n₀ position n = length text - position .0
 
 -- a letter stands at the loop's position
-letter-here : (t : ℕ) (c : check-group-lts.Else2 (given t) (check-group-at t) check-group.Post check-group-Inv-loop check-group-μ-loop)
-    → isLetter (kindOf (getD (c .before .before .before .before .before .before .before .before .before .args .text .now) (c .before .before .before .before .before .before .loop .at) 0)) ≡ true
-letter-here t c = sym (c .before .is-letter .ensures) ∙ not-false _ (c .if2 .left)
+letter-here : (t : ℕ) (c : check-group-lts.Else3 (given t) (check-group-at t) check-group.Post check-group-Inv-loop check-group-μ-loop)
+    → isLetter (kindOf (getD (c .before .before .before .before .before .before .before .before .before .before .args .text .now) (c .before .before .before .before .before .before .before .loop .position .0) 0)) ≡ true
+letter-here t c = sym (c .before .is-letter .ensures) ∙ not-false _ (c .if3 .left)
 
 -- the word there, and the spaces behind it
 word : (t : ℕ) (c : check-group-lts.After-skip-spaces2 (given t) (check-group-at t) check-group.Post check-group-Inv-loop check-group-μ-loop)
-    → Passed (c .before .before .before .before .before .before .before .before .before .before .before .before .args .text .now) (c .before .before .before .before .before .before .before .before .before .loop .at) (c .before .word-end .result) (c .skip-spaces2 .result)
-word t c = record { inside = c .before .before .before .before .before .before .before .before .loop-test .taken; letter = letter-here t (c .before .before .before); ends = c .before .word-end .ensures .0; rests = c .skip-spaces2 .ensures .0 }
+    → Passed (c .before .before .before .before .before .before .before .before .before .before .before .before .before .args .text .now) (c .before .before .before .before .before .before .before .before .before .before .loop .position .0) (c .before .word-end .result .0) (c .skip-spaces2 .result .0)
+word t c = record { inside = c .before .before .before .before .before .before .before .before .if1 .taken; letter = letter-here t (c .before .before .before); ends = c .before .word-end .ensures .0; rests = c .skip-spaces2 .ensures .0 }
 
 -- whether a "(" stands behind them
-is-open : (t : ℕ) (c : check-group-lts.Then4 (given t) (check-group-at t) check-group.Post check-group-Inv-loop check-group-μ-loop)
-    → getD (c .before .before .before .before .before .before .before .before .before .before .before .before .before .before .args .text .now) (c .before .before .skip-spaces2 .result) 0 ≡ 0x28
-is-open t c = eqb-true _ 0x28 (sym (c .before .opens-at .ensures) ∙ c .if4 .taken)
+is-open : (t : ℕ) (c : check-group-lts.Then5 (given t) (check-group-at t) check-group.Post check-group-Inv-loop check-group-μ-loop)
+    → getD (c .before .before .before .before .before .before .before .before .before .before .before .before .before .before .before .args .text .now) (c .before .before .skip-spaces2 .result .0) 0 ≡ 0x28
+is-open t c = eqb-true _ 0x28 (sym (c .before .opens-at .ensures) ∙ c .if5 .taken)
 
-is-shut : (t : ℕ) (c : check-group-lts.Else4 (given t) (check-group-at t) check-group.Post check-group-Inv-loop check-group-μ-loop)
-    → getD (c .before .before .before .before .before .before .before .before .before .before .before .before .before .before .args .text .now) (c .before .before .skip-spaces2 .result) 0 ≡ 0x28 → ⊥
-is-shut t c = eqb-false _ 0x28 (sym (c .before .opens-at .ensures) ∙ c .if4 .left)
+is-shut : (t : ℕ) (c : check-group-lts.Else5 (given t) (check-group-at t) check-group.Post check-group-Inv-loop check-group-μ-loop)
+    → getD (c .before .before .before .before .before .before .before .before .before .before .before .before .before .before .before .args .text .now) (c .before .before .skip-spaces2 .result .0) 0 ≡ 0x28 → ⊥
+is-shut t c = eqb-false _ 0x28 (sym (c .before .opens-at .ensures) ∙ c .if5 .left)
 
 check-group-skip-spaces-requires : (t : ℕ) → check-group-lts.Need-skip-spaces-requires (given t) (check-group-at t) check-group.Post check-group-Inv-loop check-group-μ-loop
 check-group-skip-spaces-requires t c κs = search needs
@@ -71,21 +71,21 @@ check-group-skip-spaces-requires t c κs = search needs
 check-group-loop-holds : (t : ℕ) → check-group-lts.Need-loop-holds (given t) (check-group-at t) check-group.Post check-group-Inv-loop check-group-μ-loop
 check-group-loop-holds t c =
     let x = c .before .before .args in
-    started (x .room) (around (x .left)) (x .start) (x .count) (c .skip-spaces .result) (x .text .now) (c .skip-spaces .ensures .0) (c .skip-spaces .ensures .1) (search needs)
+    began (x .room) (around (x .left)) (x .start .0) (x .count) (c .skip-spaces .result .0) (x .text .now) (c .skip-spaces .ensures .0) (c .skip-spaces .ensures .1) (search needs)
 
-check-group-shared-slice-read-if1 : (t : ℕ) → check-group-lts.Need-shared-slice-read-if1 (given t) (check-group-at t) check-group.Post check-group-Inv-loop check-group-μ-loop
-check-group-shared-slice-read-if1 t c = search needs
+check-group-add-past : (t : ℕ) → check-group-lts.Need-add-past (given t) (check-group-at t) check-group.Post check-group-Inv-loop check-group-μ-loop
+check-group-add-past t c = search needs
 
-check-group-add-t18 : (t : ℕ) → check-group-lts.Need-add-t18 (given t) (check-group-at t) check-group.Post check-group-Inv-loop check-group-μ-loop
-check-group-add-t18 t c = search needs
+check-group-shared-slice-read-if2 : (t : ℕ) → check-group-lts.Need-shared-slice-read-if2 (given t) (check-group-at t) check-group.Post check-group-Inv-loop check-group-μ-loop
+check-group-shared-slice-read-if2 t c = search needs
 
 check-group-returns : (t : ℕ) → check-group-lts.Need-returns (given t) (check-group-at t) check-group.Post check-group-Inv-loop check-group-μ-loop
 check-group-returns t c =
-    let k = c .before .before in
-    let l = k .before .loop in
-    let x = k .before .before .before .before .args in
+    let l = c .before .before .before .before .loop in
+    let x = c .before .before .before .before .before .before .before .args in
     let s : List ℕ = x .text .now in
-    at-close (x .room) (around (x .left)) (x .start) (x .count) (l .at) (l .n) s (l .inv) (k .loop-test .taken) (c .if1 .taken)
+    from-start (x .room) (around (x .left)) (x .start .0) (x .count) (c .before .before .before .before .before .skip-spaces .result .0) s _ (c .before .before .before .before .before .skip-spaces .ensures .0)
+    (at-close (x .room) (around (x .left)) (c .before .before .before .before .before .skip-spaces .result .0) (x .count) (l .position .0) (l .n) s (l .inv) (c .before .before .if1 .taken) (c .if2 .taken))
 
 check-group-shared-slice-read-is-letter : (t : ℕ) → check-group-lts.Need-shared-slice-read-is-letter (given t) (check-group-at t) check-group.Post check-group-Inv-loop check-group-μ-loop
 check-group-shared-slice-read-is-letter t c = search needs
@@ -95,22 +95,19 @@ check-group-is-letter-requires t c κs = search needs
 
 check-group-returns-2 : (t : ℕ) → check-group-lts.Need-returns-2 (given t) (check-group-at t) check-group.Post check-group-Inv-loop check-group-μ-loop
 check-group-returns-2 t c =
-    let k = c .before .before .before .before .before in
-    let l = k .before .loop in
-    let x = k .before .before .before .before .args in
+    let l = c .before .before .before .before .before .before .before .loop in
+    let x = c .before .before .before .before .before .before .before .before .before .before .args in
     let s : List ℕ = x .text .now in
-    at-other (x .room) (around (x .left)) (x .start) (x .count) (l .at) (l .n) s (l .inv) (k .loop-test .taken) (c .before .before .before .if1 .left) (sym (c .before .is-letter .ensures) ∙ not-true _ (c .if2 .taken))
+    from-start (x .room) (around (x .left)) (x .start .0) (x .count) (c .before .before .before .before .before .before .before .before .skip-spaces .result .0) s _ (c .before .before .before .before .before .before .before .before .skip-spaces .ensures .0)
+    (at-other (x .room) (around (x .left)) (c .before .before .before .before .before .before .before .before .skip-spaces .result .0) (x .count) (l .position .0) (l .n) s (l .inv) (c .before .before .before .before .before .if1 .taken) (c .before .before .before .if2 .left) (sym (c .before .is-letter .ensures) ∙ not-true _ (c .if3 .taken)))
 
 check-group-returns-3 : (t : ℕ) → check-group-lts.Need-returns-3 (given t) (check-group-at t) check-group.Post check-group-Inv-loop check-group-μ-loop
 check-group-returns-3 t c =
-    let k = c .before .before .before .before .before .before in
-    let l = k .before .loop in
-    let x = k .before .before .before .before .args in
+    let l = c .before .before .before .before .before .before .before .before .loop in
+    let x = c .before .before .before .before .before .before .before .before .before .before .before .args in
     let s : List ℕ = x .text .now in
-    at-full (x .room) (around (x .left)) (x .start) (x .count) (l .at) (l .n) s (l .inv) (k .loop-test .taken) (letter-here t (c .before)) (c .if3 .taken)
-
-check-group-add-word-end : (t : ℕ) → check-group-lts.Need-add-word-end (given t) (check-group-at t) check-group.Post check-group-Inv-loop check-group-μ-loop
-check-group-add-word-end t c = search needs
+    from-start (x .room) (around (x .left)) (x .start .0) (x .count) (c .before .before .before .before .before .before .before .before .before .skip-spaces .result .0) s _ (c .before .before .before .before .before .before .before .before .before .skip-spaces .ensures .0)
+    (at-full (x .room) (around (x .left)) (c .before .before .before .before .before .before .before .before .before .skip-spaces .result .0) (x .count) (l .position .0) (l .n) s (l .inv) (c .before .before .before .before .before .before .if1 .taken) (letter-here t (c .before)) (c .if4 .taken))
 
 check-group-word-end-requires : (t : ℕ) → check-group-lts.Need-word-end-requires (given t) (check-group-at t) check-group.Post check-group-Inv-loop check-group-μ-loop
 check-group-word-end-requires t c κs = search needs
@@ -123,25 +120,25 @@ check-group-opens-at-requires t c κs = search needs
 
 check-group-returns-4 : (t : ℕ) → check-group-lts.Need-returns-4 (given t) (check-group-at t) check-group.Post check-group-Inv-loop check-group-μ-loop
 check-group-returns-4 t c =
-    let k = c .before .before .before .before .before .before .before .before .before .before .before in
-    let l = k .before .loop in
-    let x = k .before .before .before .before .args in
+    let l = c .before .before .before .before .before .before .before .before .before .before .before .before .before .loop in
+    let x = c .before .before .before .before .before .before .before .before .before .before .before .before .before .before .before .before .args in
     let s : List ℕ = x .text .now in
-    at-deep (x .room) (around (x .left)) (x .start) (x .count) (l .at) (l .n) s (l .inv) (c .before .before .before .before .word-end .result) (c .before .before .before .skip-spaces2 .result) (word t (c .before .before .before)) (c .before .before .before .before .before .if3 .left) (is-open t (c .before)) (omega arith)
+    from-start (x .room) (around (x .left)) (x .start .0) (x .count) (c .before .before .before .before .before .before .before .before .before .before .before .before .before .before .skip-spaces .result .0) s _ (c .before .before .before .before .before .before .before .before .before .before .before .before .before .before .skip-spaces .ensures .0)
+    (at-deep (x .room) (around (x .left)) (c .before .before .before .before .before .before .before .before .before .before .before .before .before .before .skip-spaces .result .0) (x .count) (l .position .0) (l .n) s (l .inv) (c .before .before .before .before .word-end .result .0) (c .before .before .before .skip-spaces2 .result .0) (word t (c .before .before .before)) (c .before .before .before .before .before .if4 .left) (is-open t (c .before)) (omega arith))
 
-check-group-add-check-group : (t : ℕ) → check-group-lts.Need-add-check-group (given t) (check-group-at t) check-group.Post check-group-Inv-loop check-group-μ-loop
-check-group-add-check-group t c = search needs
+check-group-add-list : (t : ℕ) → check-group-lts.Need-add-list (given t) (check-group-at t) check-group.Post check-group-Inv-loop check-group-μ-loop
+check-group-add-list t c = search needs
 
 check-group-sub-check-group : (t : ℕ) → check-group-lts.Need-sub-check-group (given t) (check-group-at t) check-group.Post check-group-Inv-loop check-group-μ-loop
 check-group-sub-check-group t c = search needs
 
-check-group-add-check-group-2 : (t : ℕ) → check-group-lts.Need-add-check-group-2 (given t) (check-group-at t) check-group.Post check-group-Inv-loop check-group-μ-loop
-check-group-add-check-group-2 t c = search needs
+check-group-add-check-group : (t : ℕ) → check-group-lts.Need-add-check-group (given t) (check-group-at t) check-group.Post check-group-Inv-loop check-group-μ-loop
+check-group-add-check-group t c = search needs
 
 check-group-check-group-requires : (t : ℕ) → check-group-lts.Need-check-group-requires (given t) (check-group-at t) check-group.Post check-group-Inv-loop check-group-μ-loop
 check-group-check-group-requires t c κs =
-    let x = c .before .before .before .before .before .before .before .before .before .before .before .before .before .before .before .args in
-    let h : c .before .before .before .skip-spaces2 .result < length (x .text .now) = within (x .text .now) (c .before .before .before .skip-spaces2 .result) (is-open t (c .before)) in
+    let x = c .before .before .before .before .before .before .before .before .before .before .before .before .before .before .before .before .before .args in
+    let h : c .before .before .before .before .skip-spaces2 .result .0 < length (x .text .now) = within (x .text .now) (c .before .before .before .before .skip-spaces2 .result .0) (is-open t (c .before .before)) in
     search needs
 
 check-group-enum-known-inner : (t : ℕ) → check-group-lts.Need-enum-known-inner (given t) (check-group-at t) check-group.Post check-group-Inv-loop check-group-μ-loop
@@ -149,68 +146,61 @@ check-group-enum-known-inner t c = search needs
 
 check-group-skip-spaces-requires-3 : (t : ℕ) → check-group-lts.Need-skip-spaces-requires-3 (given t) (check-group-at t) check-group.Post check-group-Inv-loop check-group-μ-loop
 check-group-skip-spaces-requires-3 t c κs =
-    let k = c .before .before .before .before .before .before .before .before .before .before .before .before .before .before .before in
-    let l = k .before .loop in
-    let x = k .before .before .before .before .args in
+    let l = c .before .before .before .before .before .before .before .before .before .before .before .before .before .before .before .before .before .before .loop in
+    let x = c .before .before .before .before .before .before .before .before .before .before .before .before .before .before .before .before .before .before .before .before .before .args in
     let s : List ℕ = x .text .now in
     let g = c .before .inner .given in
-    inner-bounds (x .room) (around (x .left)) (x .start) (x .count) (l .at) (l .n) s (l .inv) (c .before .before .before .before .before .before .before .before .word-end .result) (c .before .before .before .before .before .before .before .skip-spaces2 .result) (word t (c .before .before .before .before .before .before .before)) (c .before .before .before .before .before .before .before .before .before .if3 .left) (is-open t (c .before .before .before .before .before)) (around (x .left - 1)) (omega arith) (omega arith) (c .before .before .before .check-group .result) (c .before .before .before .check-group .ensures) (g .0 .0) (g .0 .1 .0) (g .1) .1
+    inner-bounds (x .room) (around (x .left)) (c .before .before .before .before .before .before .before .before .before .before .before .before .before .before .before .before .before .before .before .skip-spaces .result .0) (x .count) (l .position .0) (l .n) s (l .inv) (c .before .before .before .before .before .before .before .before .before .word-end .result .0) (c .before .before .before .before .before .before .before .before .skip-spaces2 .result .0) (word t (c .before .before .before .before .before .before .before .before)) (c .before .before .before .before .before .before .before .before .before .before .if4 .left) (is-open t (c .before .before .before .before .before .before)) (around (x .left - 1)) (omega (arith, c .before .before .before .before .before .before .before .before .before .before .before .before .before .before .before .before .before .before .before .before .before .pre .1 .1, c .before .before .before .before .before .if6 .left)) (omega (arith, c .before .before .before .before .before .before .before .before .before .before .before .before .before .before .before .before .before .before .before .before .before .pre .1 .1, c .before .before .before .before .before .if6 .left)) (c .before .before .before .check-group .result) (c .before .before .before .check-group .ensures) (g .0 .0) (g .0 .1 .0) (g .1) .1
 
 check-group-loop-less : (t : ℕ) → check-group-lts.Need-loop-less (given t) (check-group-at t) check-group.Post check-group-Inv-loop check-group-μ-loop
 check-group-loop-less t c =
-    let k = c .before .before .before .before .before .before .before .before .before .before .before .before .before .before .before .before in
-    let l = k .before .loop in
-    let x = k .before .before .before .before .args in
+    let l = c .before .before .before .before .before .before .before .before .before .before .before .before .before .before .before .before .before .before .before .loop in
+    let x = c .before .before .before .before .before .before .before .before .before .before .before .before .before .before .before .before .before .before .before .before .before .before .args in
     let s : List ℕ = x .text .now in
     let g = c .before .before .inner .given in
-    let b = inner-bounds (x .room) (around (x .left)) (x .start) (x .count) (l .at) (l .n) s (l .inv) (c .before .before .before .before .before .before .before .before .before .word-end .result) (c .before .before .before .before .before .before .before .before .skip-spaces2 .result) (word t (c .before .before .before .before .before .before .before .before)) (c .before .before .before .before .before .before .before .before .before .before .if3 .left) (is-open t (c .before .before .before .before .before .before)) (around (x .left - 1)) (omega arith) (omega arith) (c .before .before .before .before .check-group .result) (c .before .before .before .before .check-group .ensures) (g .0 .0) (g .0 .1 .0) (g .1) in
+    let b = inner-bounds (x .room) (around (x .left)) (c .before .before .before .before .before .before .before .before .before .before .before .before .before .before .before .before .before .before .before .before .skip-spaces .result .0) (x .count) (l .position .0) (l .n) s (l .inv) (c .before .before .before .before .before .before .before .before .before .before .word-end .result .0) (c .before .before .before .before .before .before .before .before .before .skip-spaces2 .result .0) (word t (c .before .before .before .before .before .before .before .before .before)) (c .before .before .before .before .before .before .before .before .before .before .before .if4 .left) (is-open t (c .before .before .before .before .before .before .before)) (around (x .left - 1)) (omega (arith, c .before .before .before .before .before .before .before .before .before .before .before .before .before .before .before .before .before .before .before .before .before .before .pre .1 .1, c .before .before .before .before .before .before .if6 .left)) (omega (arith, c .before .before .before .before .before .before .before .before .before .before .before .before .before .before .before .before .before .before .before .before .before .before .pre .1 .1, c .before .before .before .before .before .before .if6 .left)) (c .before .before .before .before .check-group .result) (c .before .before .before .before .check-group .ensures) (g .0 .0) (g .0 .1 .0) (g .1) in
     omega (arith, c .skip-spaces3 .ensures .0)
 
 check-group-loop-again : (t : ℕ) → check-group-lts.Need-loop-again (given t) (check-group-at t) check-group.Post check-group-Inv-loop check-group-μ-loop
 check-group-loop-again t c =
-    let k = c .before .before .before .before .before .before .before .before .before .before .before .before .before .before .before .before in
-    let l = k .before .loop in
-    let x = k .before .before .before .before .args in
+    let l = c .before .before .before .before .before .before .before .before .before .before .before .before .before .before .before .before .before .before .before .loop in
+    let x = c .before .before .before .before .before .before .before .before .before .before .before .before .before .before .before .before .before .before .before .before .before .before .args in
     let s : List ℕ = x .text .now in
     let g = c .before .before .inner .given in
-    past-group (x .room) (around (x .left)) (x .start) (x .count) (l .at) (l .n) s (l .inv) (c .before .before .before .before .before .before .before .before .before .word-end .result) (c .before .before .before .before .before .before .before .before .skip-spaces2 .result) (word t (c .before .before .before .before .before .before .before .before)) (c .before .before .before .before .before .before .before .before .before .before .if3 .left) (is-open t (c .before .before .before .before .before .before)) (around (x .left - 1)) (omega arith) (omega arith) (c .before .before .before .before .check-group .result) (c .before .before .before .before .check-group .ensures) (g .0 .0) (g .0 .1 .0) (c .skip-spaces3 .result) (g .1) (c .skip-spaces3 .ensures .0) (c .skip-spaces3 .ensures .1)
+    past-group (x .room) (around (x .left)) (c .before .before .before .before .before .before .before .before .before .before .before .before .before .before .before .before .before .before .before .before .skip-spaces .result .0) (x .count) (l .position .0) (l .n) s (l .inv) (c .before .before .before .before .before .before .before .before .before .before .word-end .result .0) (c .before .before .before .before .before .before .before .before .before .skip-spaces2 .result .0) (word t (c .before .before .before .before .before .before .before .before .before)) (c .before .before .before .before .before .before .before .before .before .before .before .if4 .left) (is-open t (c .before .before .before .before .before .before .before)) (around (x .left - 1)) (omega (arith, c .before .before .before .before .before .before .before .before .before .before .before .before .before .before .before .before .before .before .before .before .before .before .pre .1 .1, c .before .before .before .before .before .before .if6 .left)) (omega (arith, c .before .before .before .before .before .before .before .before .before .before .before .before .before .before .before .before .before .before .before .before .before .before .pre .1 .1, c .before .before .before .before .before .before .if6 .left)) (c .before .before .before .before .check-group .result) (c .before .before .before .before .check-group .ensures) (g .0 .0) (g .0 .1 .0) (c .skip-spaces3 .result .0) (g .1) (c .skip-spaces3 .ensures .0) (c .skip-spaces3 .ensures .1)
 
 check-group-enum-known-inner-2 : (t : ℕ) → check-group-lts.Need-enum-known-inner-2 (given t) (check-group-at t) check-group.Post check-group-Inv-loop check-group-μ-loop
 check-group-enum-known-inner-2 t c = search needs
 
 check-group-returns-5 : (t : ℕ) → check-group-lts.Need-returns-5 (given t) (check-group-at t) check-group.Post check-group-Inv-loop check-group-μ-loop
 check-group-returns-5 t c =
-    let k = c .before .before .before .before .before .before .before .before .before .before .before .before .before .before .before in
-    let l = k .before .loop in
-    let x = k .before .before .before .before .args in
+    let l = c .before .before .before .before .before .before .before .before .before .before .before .before .before .before .before .before .before .before .loop in
+    let x = c .before .before .before .before .before .before .before .before .before .before .before .before .before .before .before .before .before .before .before .before .before .args in
     let s : List ℕ = x .text .now in
     let g = c .before .inner2 .given in
-    inner-stops (x .room) (around (x .left)) (x .start) (x .count) (l .at) (l .n) s (l .inv) (c .before .before .before .before .before .before .before .before .word-end .result) (c .before .before .before .before .before .before .before .skip-spaces2 .result) (word t (c .before .before .before .before .before .before .before)) (c .before .before .before .before .before .before .before .before .before .if3 .left) (is-open t (c .before .before .before .before .before)) (around (x .left - 1)) (omega arith) (omega arith) (c .before .before .before .check-group .result) (c .before .before .before .check-group .ensures) (g .0 .0) (g .0 .1 .0) (g .1)
+    from-start (x .room) (around (x .left)) (x .start .0) (x .count) (c .before .before .before .before .before .before .before .before .before .before .before .before .before .before .before .before .before .before .before .skip-spaces .result .0) s _ (c .before .before .before .before .before .before .before .before .before .before .before .before .before .before .before .before .before .before .before .skip-spaces .ensures .0)
+    (inner-stops (x .room) (around (x .left)) (c .before .before .before .before .before .before .before .before .before .before .before .before .before .before .before .before .before .before .before .skip-spaces .result .0) (x .count) (l .position .0) (l .n) s (l .inv) (c .before .before .before .before .before .before .before .before .before .word-end .result .0) (c .before .before .before .before .before .before .before .before .skip-spaces2 .result .0) (word t (c .before .before .before .before .before .before .before .before)) (c .before .before .before .before .before .before .before .before .before .before .if4 .left) (is-open t (c .before .before .before .before .before .before)) (around (x .left - 1)) (omega (arith, c .before .before .before .before .before .before .before .before .before .before .before .before .before .before .before .before .before .before .before .before .before .pre .1 .1, c .before .before .before .before .before .if6 .left)) (omega (arith, c .before .before .before .before .before .before .before .before .before .before .before .before .before .before .before .before .before .before .before .before .before .pre .1 .1, c .before .before .before .before .before .if6 .left)) (c .before .before .before .check-group .result) (c .before .before .before .check-group .ensures) (g .0 .0) (g .0 .1 .0) (g .1))
 
 check-group-add-n : (t : ℕ) → check-group-lts.Need-add-n (given t) (check-group-at t) check-group.Post check-group-Inv-loop check-group-μ-loop
 check-group-add-n t c = search needs
 
 check-group-loop-less-2 : (t : ℕ) → check-group-lts.Need-loop-less-2 (given t) (check-group-at t) check-group.Post check-group-Inv-loop check-group-μ-loop
-check-group-loop-less-2 t c =
-    let k = c .before .before .before .before .before .before .before .before .before .before in
-    let l = k .before .loop in
-    let x = k .before .before .before .before .args in
-    let s : List ℕ = x .text .now in
-    omega (arith, c .before .before .skip-spaces2 .ensures .0, c .before .before .before .word-end .ensures .0)
+check-group-loop-less-2 t c = omega (arith, c .before .before .skip-spaces2 .ensures .0, c .before .before .before .word-end .ensures .0)
 
 check-group-loop-again-2 : (t : ℕ) → check-group-lts.Need-loop-again-2 (given t) (check-group-at t) check-group.Post check-group-Inv-loop check-group-μ-loop
 check-group-loop-again-2 t c =
-    let k = c .before .before .before .before .before .before .before .before .before .before in
-    let l = k .before .loop in
-    let x = k .before .before .before .before .args in
+    let l = c .before .before .before .before .before .before .before .before .before .before .before .before .loop in
+    let x = c .before .before .before .before .before .before .before .before .before .before .before .before .before .before .before .args in
     let s : List ℕ = x .text .now in
-    past-word (x .room) (around (x .left)) (x .start) (x .count) (l .at) (l .n) s (l .inv) (c .before .before .before .word-end .result) (c .before .before .skip-spaces2 .result) (word t (c .before .before)) (c .before .before .before .before .if3 .left) (c .before .before .skip-spaces2 .ensures .1) (is-shut t c)
+    past-word (x .room) (around (x .left)) (c .before .before .before .before .before .before .before .before .before .before .before .before .before .skip-spaces .result .0) (x .count) (l .position .0) (l .n) s (l .inv) (c .before .before .before .word-end .result .0) (c .before .before .skip-spaces2 .result .0) (word t (c .before .before)) (c .before .before .before .before .if4 .left) (c .before .before .skip-spaces2 .ensures .1) (is-shut t c)
 
 check-group-returns-6 : (t : ℕ) → check-group-lts.Need-returns-6 (given t) (check-group-at t) check-group.Post check-group-Inv-loop check-group-μ-loop
 check-group-returns-6 t c =
-    let l = c .before .loop in
-    let x = c .before .before .before .before .args in
-    at-end (x .room) (around (x .left)) (x .start) (x .count) (l .at) (l .n) (x .text .now) (l .inv) (c .loop-test .left)
+    let l = c .before .before .loop in
+    let x = c .before .before .before .before .before .args in
+    let s : List ℕ = x .text .now in
+    from-start (x .room) (around (x .left)) (x .start .0) (x .count) (c .before .before .before .skip-spaces .result .0) s _ (c .before .before .before .skip-spaces .ensures .0)
+    (at-end (x .room) (around (x .left)) (c .before .before .before .skip-spaces .result .0) (x .count) (l .position .0) (l .n) s (l .inv) (c .if1 .left))
 
 pub +check-group-spec : {M : Type 1} → statement M
 +check-group-spec = close μ-check-group λ t. check-group-lts.spec (given t)
@@ -220,21 +210,20 @@ pub +check-group-spec : {M : Type 1} → statement M
     check-group-μ-loop
     (check-group-skip-spaces-requires t)
     (check-group-loop-holds t)
-    (check-group-shared-slice-read-if1 t)
-    (check-group-add-t18 t)
+    (check-group-add-past t)
+    (check-group-shared-slice-read-if2 t)
     (check-group-returns t)
     (check-group-shared-slice-read-is-letter t)
     (check-group-is-letter-requires t)
     (check-group-returns-2 t)
     (check-group-returns-3 t)
-    (check-group-add-word-end t)
     (check-group-word-end-requires t)
     (check-group-skip-spaces-requires-2 t)
     (check-group-opens-at-requires t)
     (check-group-returns-4 t)
-    (check-group-add-check-group t)
+    (check-group-add-list t)
     (check-group-sub-check-group t)
-    (check-group-add-check-group-2 t)
+    (check-group-add-check-group t)
     (check-group-check-group-requires t)
     (check-group-enum-known-inner t)
     (check-group-skip-spaces-requires-3 t)

@@ -49,21 +49,21 @@ enum-known-outer-2 c = search needs
 
 returns-4 : tie.Need-returns-4
 returns-4 c =
-    let k = c .before .before .before .before in
+    let k = c .before .before .before .before .before in
     let x = k .before .before .before .before .before .before .args in
     let s : List ℕ = x .text .now in
-    let g = c .before .before .outer .given in
+    let g = c .before .before .before .outer .given in
     let e = within (x .room) s (k .before .before .before .before .if1 .left) (search needs) (k .before .if3 .left) (k .check-group .ensures .answer) (g .1) in
-    sym (e ∙ judge-more (x .room) s (g .0 .0) (g .0 .1 .0) (c .if4 .taken))
+    sym (e ∙ judge-more (x .room) s (g .0 .0 .0) (g .0 .1 .0) (c .if4 .taken))
 
 returns-5 : tie.Need-returns-5
 returns-5 c =
-    let k = c .before .before .before .before in
+    let k = c .before .before .before .before .before in
     let x = k .before .before .before .before .before .before .args in
     let s : List ℕ = x .text .now in
-    let g = c .before .before .outer .given in
+    let g = c .before .before .before .outer .given in
     let e = within (x .room) s (k .before .before .before .before .if1 .left) (search needs) (k .before .if3 .left) (k .check-group .ensures .answer) (g .1) in
-    sym (e ∙ judge-done (x .room) s (g .0 .0) (g .0 .1 .0) (c .if4 .left))
+    sym (e ∙ judge-done (x .room) s (g .0 .0 .0) (g .0 .1 .0) (c .if4 .left))
 
 returns-6 : tie.Need-returns-6
 returns-6 c =

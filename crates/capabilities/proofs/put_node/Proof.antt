@@ -54,8 +54,8 @@ same-length-4 c = search needs
 
 returns : tie.Need-returns
 returns c =
-    let x = c .before .before .before .before .before .args in
-    ap (λ (g : ℕ). buffers (set (x .starts .now) (x .n) (x .start)) (set (x .lengths .now) (x .n) (x .end - x .start)) (set (x .parents .now) (x .n) (x .parent)) (set (x .groups .now) (x .n) g)) (c .flag .ensures)
+    let x = c .before .before .before .before .before .before .before .before .args in
+    ap (λ (g : ℕ). buffers (set (x .starts .now) (x .n) (x .start .0)) (set (x .lengths .now) (x .n) (x .end .0 - x .start .0)) (set (x .parents .now) (x .n) (x .parent)) (set (x .groups .now) (x .n) g)) (c .flag .ensures)
 
 pub put-node-spec : {M : Type 1} → statement M
 put-node-spec =

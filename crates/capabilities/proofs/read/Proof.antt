@@ -58,7 +58,7 @@ returns c =
     let a = c .before .before .before .before .before .before .before .before .before .before .before .before .before .before .judged .given in
     let e : outcome (bufferRoom t) s ≡ Accepted (a .0 .0) = ap (λ (n : ℕ). outcome n s) (sym (c .before .before .before .before .before .before .before .before .before .before .before .before .before .before .before .before .before .room-of .ensures)) ∙ sym (c .before .before .before .before .before .before .before .before .before .before .before .before .before .before .before .before .check .ensures) ∙ a .1 in
     let r = c .before .before .before .before .before .before .before .before .fill-group in
-    record { answer = sym e; stored = filled (a .0 .0) s t (buffers (r .last .1 .1 .1 .1 .1 .0) (r .last .1 .1 .1 .1 .1 .1 .0) (r .last .1 .1 .1 .1 .1 .1 .1 .0) (r .last .1 .1 .1 .1 .1 .1 .1 .1 .0)) (r .result .next) (r .result .count) e (r .ensures) }
+    record { answer = sym e; stored = filled (a .0 .0) s t (buffers (r .last .1 .1 .1 .1 .1 .0) (r .last .1 .1 .1 .1 .1 .1 .0) (r .last .1 .1 .1 .1 .1 .1 .1 .0) (r .last .1 .1 .1 .1 .1 .1 .1 .1 .0)) (r .result .next .0) (r .result .count) e (r .ensures) }
 
 returns-2 : tie.Need-returns-2
 returns-2 c =

@@ -13,10 +13,10 @@ use Rattle.capabilities.proofs.skip_spaces.Statement.{statement}
 use Rattle.capabilities.proofs.skip_spaces.Tie as tie
 
 abbrev Inv-loop : tie.InvT-loop
-Inv-loop text start at₀ at = (at ≤ length text) × (start + spaces (drop start text) ≡ at + spaces (drop at text))
+Inv-loop text at₀ at = (at ≤ length text) × (at₀ + spaces (drop at₀ text) ≡ at + spaces (drop at text))
 
 abbrev μ-loop : tie.MeasureT-loop
-μ-loop text start at₀ at = length text - at
+μ-loop text at₀ at = length text - at
 
 loop-holds : tie.Need-loop-holds Inv-loop μ-loop
 loop-holds c = search needs

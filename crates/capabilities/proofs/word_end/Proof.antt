@@ -12,10 +12,10 @@ use Rattle.capabilities.proofs.word_end.Statement.{statement}
 use Rattle.capabilities.proofs.word_end.Tie as tie
 
 abbrev Inv-loop : tie.InvT-loop
-Inv-loop text start at₀ at = (at ≤ length text) × (start + letters (drop start text) ≡ at + letters (drop at text))
+Inv-loop text at₀ at = (at ≤ length text) × (at₀ + letters (drop at₀ text) ≡ at + letters (drop at text))
 
 abbrev μ-loop : tie.MeasureT-loop
-μ-loop text start at₀ at = length text - at
+μ-loop text at₀ at = length text - at
 
 loop-holds : tie.Need-loop-holds Inv-loop μ-loop
 loop-holds c = search needs

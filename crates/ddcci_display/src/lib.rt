@@ -154,20 +154,20 @@ pub extern "C" fn ddcci_display_step(
         Pending::Store(code, value) => {
             return answered(changes::stored(d, code, value), answer::DONE, 0);
         }
-        Pending::Momentary => {
-            return answered(d, answer::DONE, 0);
-        }
         Pending::Save => {
             return answered(changes::saved(d), answer::DONE, 0);
-        }
-        Pending::Replied(length) => {
-            return answered(d, answer::DONE, length);
         }
         Pending::Moved(kind, cursor, length) => {
             return moved(d, kind, cursor, length);
         }
         Pending::Written(length) => {
             return answered(changes::written(d, length), answer::DONE, 0);
+        }
+        Pending::Replied(length) => {
+            return answered(d, answer::DONE, length);
+        }
+        Pending::Momentary => {
+            return answered(d, answer::DONE, 0);
         }
         Pending::Refused(answer, length) => {
             return answered(d, answer, length);

@@ -19,7 +19,7 @@ use Rattle.display_rules.specs.declared.Found.{Found}
 use Rattle.display_rules.specs.declared.Found.the-variants.{Nothing, Fragment}
 use Rattle.display_rules.specs.declared.Stepped.{Stepped}
 use Rattle.display.specs.declared.changes.Pending.{Pending}
-use Rattle.display.specs.declared.changes.Pending.the-variants.{Store, Momentary, Save, Replied, Moved, Written, Refused}
+use Rattle.display.specs.declared.changes.Pending.the-variants.{Store, Save, Moved, Written, Replied, Momentary, Refused}
 
 -- ---- what is to be done
 
@@ -66,11 +66,11 @@ moved d k c n = record { display = withCursor k d c; answer = done; len = n; fou
 
 abbrev pub stepped : Display → Pending → Stepped
 stepped d (Store c value) = answered (withSettings d (withPresent (d .settings) c value)) done 0
-stepped d Momentary = answered d done 0
 stepped d Save = answered (withSettings d (saveAll (d .settings))) done 0
-stepped d (Replied n) = answered d done n
 stepped d (Moved k c n) = moved d k c n
 stepped d (Written n) = answered (withTable d (unsent n)) done 0
+stepped d (Replied n) = answered d done n
+stepped d Momentary = answered d done 0
 stepped d (Refused k n) = answered d k n
 
 -- What a function returned is what is to be done; with that done, and the two buffers as it left them, the step has its outcome.

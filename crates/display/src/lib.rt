@@ -180,20 +180,20 @@ pub fn step(d: Display, text: &[u8], table: &mut [u8], message: &[u8], out: &mut
         Pending::Store(code, value) => {
             return changes::answered(changes::stored(d, code, value), answer::DONE, 0);
         }
-        Pending::Momentary => {
-            return changes::answered(d, answer::DONE, 0);
-        }
         Pending::Save => {
             return changes::answered(changes::saved(d), answer::DONE, 0);
-        }
-        Pending::Replied(length) => {
-            return changes::answered(d, answer::DONE, length);
         }
         Pending::Moved(kind, cursor, length) => {
             return changes::moved(d, kind, cursor, length);
         }
         Pending::Written(length) => {
             return changes::answered(changes::written(d, length), answer::DONE, 0);
+        }
+        Pending::Replied(length) => {
+            return changes::answered(d, answer::DONE, length);
+        }
+        Pending::Momentary => {
+            return changes::answered(d, answer::DONE, 0);
         }
         Pending::Refused(answer, length) => {
             return changes::answered(d, answer, length);

@@ -200,16 +200,16 @@ pub fn declare(s: Settings, d: Declaration) -> Change
 pub fn declared_count(s: Settings) -> u16
     ensures { λ r. ⌜ r ≡ countOf (s .declared) ⌝ }
 {
-    let declared = s.declared;
-    codes::count(declared) as u16
+    let counted = s.declared;
+    codes::count(counted) as u16
 }
 
 // Returns the least declared code from the given number on, or nothing. From 256 on there is none.
 pub fn next_declared(s: Settings, from: u16) -> Next
     ensures { λ r. ⌜ r ≡ nextOf (s .declared) from ⌝ }
 {
-    let declared = s.declared;
-    codes::next_from(declared, from)
+    let searched = s.declared;
+    codes::next_from(searched, from)
 }
 
 // The answer to a Set, from what is kept of its code and whether the value is above the maximum.

@@ -29,6 +29,9 @@ returns c = rw (c .answered .ensures, c .before .stored .ensures) (ap inNumbers 
 enum-told : tie.Need-enum-told
 enum-told c = search needs
 
+saved-requires : tie.Need-saved-requires
+saved-requires c κs = search needs
+
 answered-requires-2 : tie.Need-answered-requires-2
 answered-requires-2 c κs = search needs
 
@@ -39,16 +42,13 @@ same-length-4 : tie.Need-same-length-4
 same-length-4 c = search needs
 
 returns-2 : tie.Need-returns-2
-returns-2 c = rw (c .answered2 .ensures) (ap inNumbers (rw (c .before .enum-told .given .1) at (c .before .before .before .before .before .before .before .prepare .ensures .comes)))
+returns-2 c = rw (c .answered2 .ensures, c .before .saved .ensures) (ap inNumbers (rw (c .before .before .enum-told .given .1) at (c .before .before .before .before .before .before .before .before .prepare .ensures .comes)))
 
-enum-told-2 : tie.Need-enum-told-2
-enum-told-2 c = search needs
+enum-known-pending-2 : tie.Need-enum-known-pending-2
+enum-known-pending-2 c = search needs
 
-saved-requires : tie.Need-saved-requires
-saved-requires c κs = search needs
-
-answered-requires-3 : tie.Need-answered-requires-3
-answered-requires-3 c κs = search needs
+moved-requires : tie.Need-moved-requires
+moved-requires c κs = search needs
 
 same-length-5 : tie.Need-same-length-5
 same-length-5 c = search needs
@@ -57,13 +57,16 @@ same-length-6 : tie.Need-same-length-6
 same-length-6 c = search needs
 
 returns-3 : tie.Need-returns-3
-returns-3 c = rw (c .answered3 .ensures, c .before .saved .ensures) (ap inNumbers (rw (c .before .before .enum-told2 .given .1) at (c .before .before .before .before .before .before .before .before .prepare .ensures .comes)))
+returns-3 c = rw (c .moved .ensures) (ap inNumbers (rw (c .before .before .pending2 .given .1) at (c .before .before .before .before .before .before .before .before .prepare .ensures .comes)))
 
-enum-known-pending-2 : tie.Need-enum-known-pending-2
-enum-known-pending-2 c = search needs
+enum-known-pending-3 : tie.Need-enum-known-pending-3
+enum-known-pending-3 c = search needs
 
-answered-requires-4 : tie.Need-answered-requires-4
-answered-requires-4 c κs = search needs
+written-requires : tie.Need-written-requires
+written-requires c κs = search needs
+
+answered-requires-3 : tie.Need-answered-requires-3
+answered-requires-3 c κs = search needs
 
 same-length-7 : tie.Need-same-length-7
 same-length-7 c = search needs
@@ -72,13 +75,13 @@ same-length-8 : tie.Need-same-length-8
 same-length-8 c = search needs
 
 returns-4 : tie.Need-returns-4
-returns-4 c = rw (c .answered4 .ensures) (ap inNumbers (rw (c .before .before .pending2 .given .1) at (c .before .before .before .before .before .before .before .before .prepare .ensures .comes)))
+returns-4 c = rw (c .answered3 .ensures, c .before .written .ensures) (ap inNumbers (rw (c .before .before .before .pending3 .given .1) at (c .before .before .before .before .before .before .before .before .before .prepare .ensures .comes)))
 
-enum-known-pending-3 : tie.Need-enum-known-pending-3
-enum-known-pending-3 c = search needs
+enum-known-pending-4 : tie.Need-enum-known-pending-4
+enum-known-pending-4 c = search needs
 
-moved-requires : tie.Need-moved-requires
-moved-requires c κs = search needs
+answered-requires-4 : tie.Need-answered-requires-4
+answered-requires-4 c κs = search needs
 
 same-length-9 : tie.Need-same-length-9
 same-length-9 c = search needs
@@ -87,13 +90,10 @@ same-length-10 : tie.Need-same-length-10
 same-length-10 c = search needs
 
 returns-5 : tie.Need-returns-5
-returns-5 c = rw (c .moved .ensures) (ap inNumbers (rw (c .before .before .pending3 .given .1) at (c .before .before .before .before .before .before .before .before .prepare .ensures .comes)))
+returns-5 c = rw (c .answered4 .ensures) (ap inNumbers (rw (c .before .before .pending4 .given .1) at (c .before .before .before .before .before .before .before .before .prepare .ensures .comes)))
 
-enum-known-pending-4 : tie.Need-enum-known-pending-4
-enum-known-pending-4 c = search needs
-
-written-requires : tie.Need-written-requires
-written-requires c κs = search needs
+enum-told-2 : tie.Need-enum-told-2
+enum-told-2 c = search needs
 
 answered-requires-5 : tie.Need-answered-requires-5
 answered-requires-5 c κs = search needs
@@ -105,7 +105,7 @@ same-length-12 : tie.Need-same-length-12
 same-length-12 c = search needs
 
 returns-6 : tie.Need-returns-6
-returns-6 c = rw (c .answered5 .ensures, c .before .written .ensures) (ap inNumbers (rw (c .before .before .before .pending4 .given .1) at (c .before .before .before .before .before .before .before .before .before .prepare .ensures .comes)))
+returns-6 c = rw (c .answered5 .ensures) (ap inNumbers (rw (c .before .enum-told2 .given .1) at (c .before .before .before .before .before .before .before .prepare .ensures .comes)))
 
 enum-known-pending-5 : tie.Need-enum-known-pending-5
 enum-known-pending-5 c = search needs
@@ -134,28 +134,28 @@ ddcci-display-step-spec =
     same-length-2
     returns
     enum-told
+    saved-requires
     answered-requires-2
     same-length-3
     same-length-4
     returns-2
-    enum-told-2
-    saved-requires
-    answered-requires-3
+    enum-known-pending-2
+    moved-requires
     same-length-5
     same-length-6
     returns-3
-    enum-known-pending-2
-    answered-requires-4
+    enum-known-pending-3
+    written-requires
+    answered-requires-3
     same-length-7
     same-length-8
     returns-4
-    enum-known-pending-3
-    moved-requires
+    enum-known-pending-4
+    answered-requires-4
     same-length-9
     same-length-10
     returns-5
-    enum-known-pending-4
-    written-requires
+    enum-told-2
     answered-requires-5
     same-length-11
     same-length-12

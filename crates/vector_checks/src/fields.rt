@@ -1,7 +1,11 @@
+// The fields of a message, and how many of them document 01's table gives it.
 ghost use mathlib.Core.Path.{_≡_};
 ghost use Prim.Native.Nat.{_+_, _*_, _<_};
 ghost use lib.ListN.{getD};
+ghost use Rattle.message_rules.specs.Layout.{rowOf};
+ghost use Rattle.message_rules.specs.declared.Direction.the-variants.{Request, Reply};
 ghost use Rattle.vector_checks.specs.Fields.{partOf, gathered};
+ghost use Rattle.vector_checks.specs.Shape.{shapeOf};
 
 // The fields of a message: its command number, at most three single bytes and two 16-bit words, each 0 where it has none. Data stand apart.
 pub struct Fields(pub u8, pub u8, pub u8, pub u8, pub u16, pub u16);
@@ -10,8 +14,11 @@ pub struct Fields(pub u8, pub u8, pub u8, pub u8, pub u16, pub u16);
 // words it has, and how much data at most.
 pub struct Shape(pub bool, pub bool, pub u8, pub u8, pub u8);
 
-// The table, written down once more. The null message, which has no command, is a reply without fields.
-pub fn layout(command: u8) -> Shape {
+// Returns the row of a command number. The table is written down once more, and proved to be message_rules' table.
+// The null message, which has no command, is a reply without fields.
+pub fn layout(command: u8) -> Shape
+    ensures { λ r. ⌜ r ≡ shapeOf (rowOf Request command) (rowOf Reply command) ⌝ }
+{
     match command {
         0x01 => Shape(true, false, 1, 0, 0),
         0x03 => Shape(true, false, 1, 2, 0),

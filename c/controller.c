@@ -25,6 +25,17 @@ static uint8_t message[DDCCI_DISPLAY_MESSAGE_ROOM]; /* one byte more than the lo
 static uint8_t reply[DDCCI_OUTPUT_ROOM];
 static size_t message_length, reply_length, reply_at;
 
+/* The panel gets what the settings hold; a momentary code holds nothing. */
+static void set_whole_panel(void) {
+    uint16_t code = ddcci_display_next_declared(display, 0);
+    while (code != DDCCI_DISPLAY_NO_CODE) {
+        if (!(display.settings.momentary[code / 64] >> (code % 64) & 1)) {
+            set_panel((uint8_t)code, display.settings.present[code]);
+        }
+        code = ddcci_display_next_declared(display, (uint16_t)(code + 1));
+    }
+}
+
 /* At power-up. A profile that is refused changes nothing. */
 static void start(void) {
     static const ddcci_display_timing timing = {0, 0, 0};
@@ -34,6 +45,7 @@ static void start(void) {
     display = ddcci_display_declare(display, brightness).display;
     display = ddcci_display_declare(display, degauss).display;
     display = ddcci_display_load_profile(display, kept_profile, kept_length).display;
+    set_whole_panel();
 }
 
 /* The panel, the list and the flash memory follow what a message did. */
@@ -105,6 +117,7 @@ int main(void) {
     static const uint8_t save[] = {0x51, 0x81, 0x0C, 0xB2};
     static const uint8_t write[] = {0x51, 0x85, 0xE7, 0xF4, 0x00, 0x00, 0x41, 0xE8};
     static const uint8_t power[] = {0x51, 0x82, 0x09, 0x00, 0xB4};
+    printf("power-up\n");
     start();
     host_reads(3);
     host_writes("get brightness", get, sizeof get);

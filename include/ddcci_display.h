@@ -51,8 +51,8 @@ typedef struct {
     uint16_t vertical;
 } ddcci_display_timing;
 
-/* What is held for each code 0 to 255: five sets of codes, one bit a code, and the values; with the
- * timing's fields between the arrays. */
+/* What is held for each code 0 to 255: five sets of codes, in which code c is bit c % 64 of word c / 64, and
+ * the values; with the timing's fields between the arrays. */
 typedef struct {
     uint64_t declared[4];
     uint64_t readable[4];

@@ -37,7 +37,10 @@ loaded with 101: answer 9 at 0
 loaded with 70: answer 0 at 7
 ";
 
-const CONTROLLER_WRITES: &str = "  read: 6E 80 BE
+const CONTROLLER_WRITES: &str = "\
+power-up
+  panel: code 10 is 50
+  read: 6E 80 BE
 get brightness
 probe
   read: 6E 88 02 00 10 00 00 64 00 32 F2 00 00
@@ -53,6 +56,7 @@ a command that is not in the table
   read: 6E 80 BE
 save
 power-up
+  panel: code 10 is 100
 get brightness
   read: 6E 88 02 00 10 00 00 64 00 64 A4
 ";

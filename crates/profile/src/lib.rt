@@ -1,7 +1,7 @@
 // Writing and loading the settings profile, each proved equal to its definition in profile_rules.
 //
-// Both walk the profile's codes by the next code of one set: the codes that are declared, readable and writable and not momentary, found by
-// whole words. Loading judges the profile in a first pass that stores nothing, so that a refusal has nothing to undo.
+// Both walk the profile's codes by the next code of one set: the codes that are declared, readable and writable and not momentary.
+// Loading judges the profile in a first pass that stores nothing, so that a refusal has nothing to undo.
 use codes::Next;
 use message_rules::Position;
 use message_rules::answer::BROKEN_PROFILE;
@@ -18,25 +18,36 @@ use profile_rules::Written;
 use settings::Settings;
 ghost use mathlib.Core.Path.{_≡_};
 ghost use Prim.Native.Nat.{_+_, _*_, _/_, _≤_, _<_};
-ghost use lib.ListN.{length, drop};
+ghost use lib.ListN.{length, getD, drop};
 ghost use Rattle.codes.specs.Codes.{member};
 ghost use Rattle.profile_rules.specs.Records.{valueRecord, recordSize, wordAt, beginsWithRecord};
 ghost use Rattle.profile_rules.specs.Profile.{codesFrom, recordsOf, writeProfile, recordAnswer, judgeProfile, loadProfile};
 ghost use Rattle.profile.specs.Parts.{keptWord, keptWords, put, judgedAt, storedRecords};
 
+// Returns the byte as a wider number.
 fn wide(x: u8) -> usize
     ensures { λ r. ⌜ (r ≡ x) × (r < 256) ⌝ }
 {
     x as usize
 }
 
+// Returns the byte as a 16-bit number.
 fn wide16(x: u8) -> u16
     ensures { λ r. ⌜ (r ≡ x) × (r < 256) ⌝ }
 {
     x as u16
 }
 
-// One word of the set of the profile's codes: the bits of the first three sets together, without those of the fourth.
+// Returns the position n bytes behind another.
+fn after(at: Position, n: usize) -> Position
+    requires { ⌜ at .0 + n < 18446744073709551616 ⌝ }
+    ensures { λ r. ⌜ r .0 ≡ at .0 + n ⌝ }
+{
+    let place = at.0 + n;
+    Position(place)
+}
+
+// Returns one word of the set of the profile's codes: the bits of the first three sets together, without those of the fourth.
 fn kept_word(d: [u64; 4], r: [u64; 4], w: [u64; 4], m: [u64; 4], i: usize) -> u64
     requires { ⌜ i < 4 ⌝ }
     ensures { λ k. ⌜ k ≡ keptWord d r w m i ⌝ }
@@ -45,7 +56,7 @@ fn kept_word(d: [u64; 4], r: [u64; 4], w: [u64; 4], m: [u64; 4], i: usize) -> u6
     ((d[i] & r[i] & w[i]) | momentary) ^ momentary
 }
 
-// The set of the profile's codes, from the sets of those that are declared, readable, writable and momentary.
+// Returns the set of the profile's codes, from the sets of those that are declared, readable, writable and momentary.
 fn profile_codes(d: [u64; 4], r: [u64; 4], w: [u64; 4], m: [u64; 4]) -> [u64; 4]
     ensures { λ k. ⌜ k ≡ keptWords d r w m ⌝ }
 {
@@ -57,18 +68,20 @@ fn profile_codes(d: [u64; 4], r: [u64; 4], w: [u64; 4], m: [u64; 4]) -> [u64; 4]
     ]
 }
 
-// Puts the record of a code and its value into the output at a position. The high bytes of the length and of the kind are 0.
-fn put_record(out: &mut [u8], at: usize, code: u8, value: u16)
-    requires { ⌜ at + recordSize ≤ length (now out) ⌝ }
-    ensures { λ _. ⌜ now (out .exit) ≡ put (now (out .entry)) at (valueRecord code value) ⌝ }
+// Puts the record of a code and its value into the output at a position.
+// The high bytes of the length and of the kind are 0.
+fn put_record(out: &mut [u8], at: Position, code: u8, value: u16)
+    requires { ⌜ at .0 + recordSize ≤ length (now out) ⌝ }
+    ensures { λ _. ⌜ now (out .exit) ≡ put (now (out .entry)) (at .0) (valueRecord code value) ⌝ }
 {
-    out[at] = RECORD_LENGTH as u8;
-    out[at + 1] = 0;
-    out[at + 2] = VALUE_KIND as u8;
-    out[at + 3] = 0;
-    out[at + 4] = code;
-    out[at + 5] = (value % 256) as u8;
-    out[at + 6] = (value / 256) as u8;
+    let i = at.0;
+    out[i] = RECORD_LENGTH as u8;
+    out[i + 1] = 0;
+    out[i + 2] = VALUE_KIND as u8;
+    out[i + 3] = 0;
+    out[i + 4] = code;
+    out[i + 5] = (value % 256) as u8;
+    out[i + 6] = (value / 256) as u8;
 }
 
 // Puts the records of all codes of the set into the output, from its start on.
@@ -76,7 +89,7 @@ fn put_records(words: [u64; 4], saved: &[u16; 256], out: &mut [u8])
     requires { ⌜ recordSize * length (codesFrom (member words) 0) ≤ length (now out) ⌝ }
     ensures { λ _. ⌜ now (out .exit) ≡ put (now (out .entry)) 0 (recordsOf (now (saved .entry)) (codesFrom (member words) 0)) ⌝ }
 {
-    let mut at = 0usize;
+    let mut at = Position(0);
     let mut from = 0u16;
     loop {
         let next = codes::next_from(words, from);
@@ -84,7 +97,7 @@ fn put_records(words: [u64; 4], saved: &[u16; 256], out: &mut [u8])
             Next::Code(code) => {
                 let i = wide(code);
                 put_record(out, at, code, saved[i]);
-                at += RECORD_SIZE;
+                at = after(at, RECORD_SIZE);
                 from = wide16(code) + 1;
             }
             Next::Nothing => return,
@@ -92,7 +105,8 @@ fn put_records(words: [u64; 4], saved: &[u16; 256], out: &mut [u8])
     }
 }
 
-// Writes the profile: one record for each of its codes, with the saved value. 1, and nothing written, where the output is too short.
+// Writes the profile: one record for each of its codes, with the saved value.
+// Returns the answer and the profile's length; 1, with nothing written, where the output is too short.
 pub fn write(s: Settings, out: &mut [u8]) -> Written
     ensures { λ r. ⌜ record { result = r; output = now (out .exit) } ≡ writeProfile s (now (out .entry)) ⌝ }
 {
@@ -111,36 +125,46 @@ pub fn write(s: Settings, out: &mut [u8]) -> Written
     }
 }
 
-// The 16-bit word at a position, the low byte first.
-fn word_at(s: &[u8], at: usize) -> u16
-    requires { ⌜ at + 1 < length (now s) ⌝ }
-    ensures { λ r. ⌜ r ≡ wordAt (now (s .entry)) at ⌝ }
+// Returns the byte at a position.
+fn byte_at(s: &[u8], at: Position) -> u8
+    requires { ⌜ at .0 < length (now s) ⌝ }
+    ensures { λ r. ⌜ r ≡ getD (now (s .entry)) (at .0) 0 ⌝ }
 {
-    wide16(s[at]) + wide16(s[at + 1]) * 256
+    let i = at.0;
+    s[i]
 }
 
-// Whether a record of kind 1 stands at a position: whole, and with its length and kind.
-fn record_stands(s: &[u8], at: usize) -> bool
-    requires { ⌜ at ≤ length (now s) ⌝ }
-    ensures { λ r. ⌜ r ≡ beginsWithRecord (drop at (now (s .entry))) ⌝ }
+// Returns the 16-bit word at a position, the low byte first.
+fn word_at(s: &[u8], at: Position) -> u16
+    requires { ⌜ at .0 + 1 < length (now s) ⌝ }
+    ensures { λ r. ⌜ r ≡ wordAt (now (s .entry)) (at .0) ⌝ }
 {
-    if s.len() - at < RECORD_SIZE {
+    let i = at.0;
+    wide16(s[i]) + wide16(s[i + 1]) * 256
+}
+
+// Returns whether a record of kind 1 stands at a position: whole, and with its length and kind.
+fn record_stands(s: &[u8], at: Position) -> bool
+    requires { ⌜ at .0 ≤ length (now s) ⌝ }
+    ensures { λ r. ⌜ r ≡ beginsWithRecord (drop (at .0) (now (s .entry))) ⌝ }
+{
+    if s.len() - at.0 < RECORD_SIZE {
         return false;
     }
     if word_at(s, at) == RECORD_LENGTH {
-        return word_at(s, at + 2) == VALUE_KIND;
+        return word_at(s, after(at, 2)) == VALUE_KIND;
     }
     false
 }
 
-// The answer to the record at a position, where the next code is the one given.
-fn record_answer(s: &[u8], at: usize, code: u8, continuous: bool, maximum: u16) -> u8
-    requires { ⌜ at ≤ length (now s) ⌝ }
-    ensures { λ r. ⌜ r ≡ recordAnswer code continuous maximum (drop at (now (s .entry))) ⌝ }
+// Returns the answer to the record at a position, where the next code is the one given.
+fn record_answer(s: &[u8], at: Position, code: u8, continuous: bool, maximum: u16) -> u8
+    requires { ⌜ at .0 ≤ length (now s) ⌝ }
+    ensures { λ r. ⌜ r ≡ recordAnswer code continuous maximum (drop (at .0) (now (s .entry))) ⌝ }
 {
     if record_stands(s, at) {
-        if s[at + 4] == code {
-            if settings::exceeds(continuous, maximum, word_at(s, at + 5)) {
+        if byte_at(s, after(at, 4)) == code {
+            if settings::exceeds(continuous, maximum, word_at(s, after(at, 5))) {
                 return VALUE_TOO_LARGE;
             }
             return DONE;
@@ -150,22 +174,23 @@ fn record_answer(s: &[u8], at: usize, code: u8, continuous: bool, maximum: u16) 
     BROKEN_PROFILE
 }
 
-// An answer with a position.
-fn judged(answer: u8, at: usize) -> Judged
-    ensures { λ r. ⌜ r ≡ judgedAt answer at ⌝ }
+// Returns an answer with a position.
+fn judged(answer: u8, at: Position) -> Judged
+    ensures { λ r. ⌜ r ≡ judgedAt answer (at .0) ⌝ }
 {
     Judged {
         answer: answer,
-        position: Position(at),
+        position: at,
     }
 }
 
 // Judges a profile, record by record, and stores nothing.
+// Returns the first bad record's answer and position, or 0 and the end of the profile.
 fn judge(s: Settings, profile: &[u8]) -> Judged
     ensures { λ r. ⌜ r ≡ judgeProfile s (now (profile .entry)) ⌝ }
 {
     let words = profile_codes(s.declared, s.readable, s.writable, s.momentary);
-    let mut at = 0usize;
+    let mut at = Position(0);
     let mut from = 0u16;
     loop {
         let next = codes::next_from(words, from);
@@ -182,11 +207,11 @@ fn judge(s: Settings, profile: &[u8]) -> Judged
                 if answer != DONE {
                     return judged(answer, at);
                 }
-                at += RECORD_SIZE;
+                at = after(at, RECORD_SIZE);
                 from = wide16(code) + 1;
             }
             Next::Nothing => {
-                if at == profile.len() {
+                if at.0 == profile.len() {
                     return judged(DONE, at);
                 }
                 return judged(BROKEN_PROFILE, at);
@@ -195,22 +220,23 @@ fn judge(s: Settings, profile: &[u8]) -> Judged
     }
 }
 
-// Stores the values of all records, each at the code that it names.
+// Returns the settings with the values of all records, each at the code that it names.
 fn store(mut s: Settings, profile: &[u8]) -> Settings
     ensures { λ r. ⌜ r ≡ storedRecords (length (now (profile .entry)) / recordSize) s (now (profile .entry)) ⌝ }
 {
-    let mut at = 0usize;
-    while RECORD_SIZE <= profile.len() - at {
-        let i = wide(profile[at + 4]);
-        let value = word_at(profile, at + 5);
+    let mut at = Position(0);
+    while RECORD_SIZE <= profile.len() - at.0 {
+        let i = wide(byte_at(profile, after(at, 4)));
+        let value = word_at(profile, after(at, 5));
         s.present[i] = value;
         s.saved[i] = value;
-        at += RECORD_SIZE;
+        at = after(at, RECORD_SIZE);
     }
     s
 }
 
-// Loads a profile: present and saved of all its codes, or nothing changed and the first bad record's answer and position.
+// Loads a profile: returns the settings with present and saved of all its codes.
+// A refusal leaves the same settings, and has the first bad record's answer and position.
 pub fn load(s: Settings, profile: &[u8]) -> Loaded
     ensures { λ r. ⌜ r ≡ loadProfile s (now (profile .entry)) ⌝ }
 {

@@ -16,7 +16,7 @@ use Rattle.profile.proofs.judge.Statement.{statement}
 use Rattle.profile.proofs.judge.Tie as tie
 
 abbrev Inv-loop : tie.InvT-loop
-Inv-loop profile s words at₀ from₀ at from = (from ≤ allCodes) × (at ≤ length profile) × Left s words profile at from
+Inv-loop profile s words at₀ from₀ at from = (from ≤ allCodes) × (at .0 ≤ length profile) × Left s words profile (at .0) from
 
 abbrev μ-loop : tie.MeasureT-loop
 μ-loop profile s words at₀ from₀ at from = allCodes - from
@@ -61,7 +61,7 @@ answered : (c : tie.After-record-answer Inv-loop μ-loop)
     → let known = c .before .before .before .before .before in
     let turn = known .before .before .before .before in
     let given = turn .before .before .before .before .before .before .before .args in
-    c .record-answer .result ≡ answerTo (given .t1) (known .before .next .given .0 .0) (drop (turn .loop .at) (given .profile .now))
+    c .record-answer .result ≡ answerTo (given .t1) (known .before .next .given .0 .0) (drop (turn .loop .at .0) (given .profile .now))
 answered c =
     let known = c .before .before .before .before .before in
     let turn = known .before .before .before .before in
@@ -77,21 +77,21 @@ returns c =
     let known = at .before .before .before .before .before in
     let turn = known .before .before .before .before in
     let given = turn .before .before .before .before .before .before .before .args in
-    let said : c .judged .result ≡ judgedAt (at .record-answer .result) (turn .loop .at) = c .judged .ensures in
+    let said : c .judged .result ≡ judgedAt (at .record-answer .result) (turn .loop .at .0) = c .judged .ensures in
     said
-    ∙ left-refused (given .t1) (turn .before .profile-codes .result) (given .profile .now) (turn .loop .at) (turn .loop .from) (turn .loop .inv .2) _ (found known) _ (answered at) (c .before .if1 .taken)
+    ∙ left-refused (given .t1) (turn .before .profile-codes .result) (given .profile .now) (turn .loop .at .0) (turn .loop .from) (turn .loop .inv .2) _ (found known) _ (answered at) (c .before .if1 .taken)
 
 -- an accepted record is whole
 room : (c : tie.Else1 Inv-loop μ-loop)
     → let turn = c .before .before .before .before .before .before .before .before .before .before in
-    turn .loop .at + recordSize ≤ length (turn .before .before .before .before .before .before .before .args .profile .now)
+    turn .loop .at .0 + recordSize ≤ length (turn .before .before .before .before .before .before .before .args .profile .now)
 room c =
     let turn = c .before .before .before .before .before .before .before .before .before .before in
     let given = turn .before .before .before .before .before .before .before .args in
-    answered-whole (given .t1) (given .profile .now) (turn .loop .at) _ (turn .loop .inv .1) (sym (answered (c .before)) ∙ c .if1 .left)
+    answered-whole (given .t1) (given .profile .now) (turn .loop .at .0) _ (turn .loop .inv .1) (sym (answered (c .before)) ∙ c .if1 .left)
 
-add-at : tie.Need-add-at Inv-loop μ-loop
-add-at c = omega (arith, room c)
+after-requires : tie.Need-after-requires Inv-loop μ-loop
+after-requires c κs = omega (arith, room c)
 
 wide16-requires : tie.Need-wide16-requires Inv-loop μ-loop
 wide16-requires c κs = search needs
@@ -100,16 +100,16 @@ add-from : tie.Need-add-from Inv-loop μ-loop
 add-from c = omega arith
 
 loop-less : tie.Need-loop-less Inv-loop μ-loop
-loop-less c = let f = found (c .before .before .before .before .before .before .before) in omega (arith, c .wide16 .ensures .0)
+loop-less c = let f = found (c .before .before .before .before .before .before .before .before) in omega (arith, c .wide16 .ensures .0)
 
 loop-again : tie.Need-loop-again Inv-loop μ-loop
 loop-again c =
-    let at = c .before .before in
+    let at = c .before .before .before in
     let known = at .before .before .before .before .before in
     let turn = known .before .before .before .before in
     let given = turn .before .before .before .before .before .before .before .args in
-    left-turn (given .t1) (turn .before .profile-codes .result) (given .profile .now) (turn .loop .at) (turn .loop .from) (turn .loop .inv .2) _ _ (found known) (c .wide16 .ensures .0) (turn .loop .inv .1)
-    (sym (answered at) ∙ c .before .if1 .left)
+    rw (c .before .after .ensures) (left-turn (given .t1) (turn .before .profile-codes .result) (given .profile .now) (turn .loop .at .0) (turn .loop .from) (turn .loop .inv .2) _ _ (found known) (c .wide16 .ensures .0) (turn .loop .inv .1)
+    (sym (answered at) ∙ c .before .before .if1 .left))
 
 enum-told : tie.Need-enum-told Inv-loop μ-loop
 enum-told c = search needs
@@ -119,20 +119,20 @@ judged-requires-2 c κs = search needs
 
 returns-2 : tie.Need-returns-2 Inv-loop μ-loop
 returns-2 c =
-    let turn = c .before .before .before .before .before in
+    let turn = c .before .before .before .before .before .before in
     let given = turn .before .before .before .before .before .before .before .args in
-    let none = next-nothing _ _ (sym (c .before .before .enum-told .given .1) ∙ c .before .before .before .before .next-from .ensures) in
-    c .judged2 .ensures ∙ left-end (given .t1) (turn .before .profile-codes .result) (given .profile .now) (turn .loop .at) (turn .loop .from) (turn .loop .inv .2) none (c .before .if2 .taken)
+    let none = next-nothing _ _ (sym (c .before .before .before .enum-told .given .1) ∙ c .before .before .before .before .before .next-from .ensures) in
+    c .judged2 .ensures ∙ left-end (given .t1) (turn .before .profile-codes .result) (given .profile .now) (turn .loop .at .0) (turn .loop .from) (turn .loop .inv .2) none (c .before .if2 .taken)
 
 judged-requires-3 : tie.Need-judged-requires-3 Inv-loop μ-loop
 judged-requires-3 c κs = search needs
 
 returns-3 : tie.Need-returns-3 Inv-loop μ-loop
 returns-3 c =
-    let turn = c .before .before .before .before .before in
+    let turn = c .before .before .before .before .before .before in
     let given = turn .before .before .before .before .before .before .before .args in
-    let none = next-nothing _ _ (sym (c .before .before .enum-told .given .1) ∙ c .before .before .before .before .next-from .ensures) in
-    c .judged3 .ensures ∙ left-more (given .t1) (turn .before .profile-codes .result) (given .profile .now) (turn .loop .at) (turn .loop .from) (turn .loop .inv .2) none (turn .loop .inv .1) (c .before .if2 .left)
+    let none = next-nothing _ _ (sym (c .before .before .before .enum-told .given .1) ∙ c .before .before .before .before .before .next-from .ensures) in
+    c .judged3 .ensures ∙ left-more (given .t1) (turn .before .profile-codes .result) (given .profile .now) (turn .loop .at .0) (turn .loop .from) (turn .loop .inv .2) none (turn .loop .inv .1) (c .before .if2 .left)
 
 pub judge-spec : {M : Type 1} → statement M
 judge-spec =
@@ -151,7 +151,7 @@ judge-spec =
     record-answer-requires
     judged-requires
     returns
-    add-at
+    after-requires
     wide16-requires
     add-from
     loop-less

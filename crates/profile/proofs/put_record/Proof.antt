@@ -61,7 +61,7 @@ same-length : tie.Need-same-length
 same-length c = simp length-set
 
 returns : tie.Need-returns
-returns c = seven-stores (c .args .out .now) (c .args .at) _ _ _ _ _ _ _ (c .pre)
+returns c = seven-stores (c .args .out .now) (c .args .at .0) _ _ _ _ _ _ _ (c .pre)
 
 pub put-record-spec : {M : Type 1} → statement M
 put-record-spec =

@@ -17,8 +17,8 @@ use Rattle.profile.proofs.put_records.Tie as tie
 
 abbrev Inv-loop : tie.InvT-loop
 Inv-loop words saved out₀ at₀ from₀ out at from =
-    (from ≤ allCodes) × (at + recordSize * length (codesFrom (member words) from) ≤ length out) × (length out ≡ length out₀)
-    × (put out at (recordsOf saved (codesFrom (member words) from)) ≡ put out₀ 0 (recordsOf saved (codesFrom (member words) 0)))
+    (from ≤ allCodes) × (at .0 + recordSize * length (codesFrom (member words) from) ≤ length out) × (length out ≡ length out₀)
+    × (put out (at .0) (recordsOf saved (codesFrom (member words) from)) ≡ put out₀ 0 (recordsOf saved (codesFrom (member words) 0)))
 
 abbrev μ-loop : tie.MeasureT-loop
 μ-loop words saved out₀ at₀ from₀ out at from = allCodes - from
@@ -47,14 +47,14 @@ found : (c : tie.After-known-told Inv-loop μ-loop)
 found c = next-found _ _ _ (c .before .before .before .before .loop .inv .0) (sym (c .before .next .given .1) ∙ c .before .before .before .next-from .ensures)
 
 -- its record fits into the output
-room : (c : tie.After-known-told Inv-loop μ-loop) → c .before .before .before .before .loop .at + recordSize ≤ length (c .before .before .before .before .loop .out)
-room c = let l = c .before .before .before .before .loop in put-room [] (c .before .before .before .before .before .before .args .words) (l .out) (l .at) (l .from) _ (found c) (l .inv .1)
+room : (c : tie.After-known-told Inv-loop μ-loop) → c .before .before .before .before .loop .at .0 + recordSize ≤ length (c .before .before .before .before .loop .out)
+room c = let l = c .before .before .before .before .loop in put-room [] (c .before .before .before .before .before .before .args .words) (l .out) (l .at .0) (l .from) _ (found c) (l .inv .1)
 
 put-record-requires : tie.Need-put-record-requires Inv-loop μ-loop
 put-record-requires c κs = room (c .before .before .before)
 
-add-at : tie.Need-add-at Inv-loop μ-loop
-add-at c = omega (arith, room (c .before .before .before .before .before .before))
+after-requires : tie.Need-after-requires Inv-loop μ-loop
+after-requires c κs = omega (arith, room (c .before .before .before .before .before .before))
 
 wide16-requires : tie.Need-wide16-requires Inv-loop μ-loop
 wide16-requires c κs = search needs
@@ -63,15 +63,15 @@ add-from : tie.Need-add-from Inv-loop μ-loop
 add-from c = omega arith
 
 loop-less : tie.Need-loop-less Inv-loop μ-loop
-loop-less c = let f = found (c .before .before .before .before .before .before .before) in omega (arith, c .wide16 .ensures .0)
+loop-less c = let f = found (c .before .before .before .before .before .before .before .before) in omega (arith, c .wide16 .ensures .0)
 
 loop-again : tie.Need-loop-again Inv-loop μ-loop
 loop-again c =
-    let known = c .before .before .before .before .before .before .before in
+    let known = c .before .before .before .before .before .before .before .before in
     let turn = known .before .before .before .before in
     let given = turn .before .before .args in
-    put-turn (given .saved .now) (given .words) (turn .loop .out) (given .out .now) _ _ (turn .loop .at) (turn .loop .from) _ _ _ (found known)
-    (c .before .before .before .before .before .before .wide .ensures .0) (c .wide16 .ensures .0) (c .before .before .before .put-record .ensures) (turn .loop .inv .1) (turn .loop .inv .2) (turn .loop .inv .3)
+    rw (c .before .after .ensures) (put-turn (given .saved .now) (given .words) (turn .loop .out) (given .out .now) _ _ (turn .loop .at .0) (turn .loop .from) _ _ _ (found known)
+    (c .before .before .before .before .before .before .before .wide .ensures .0) (c .wide16 .ensures .0) (c .before .before .before .before .put-record .ensures) (turn .loop .inv .1) (turn .loop .inv .2) (turn .loop .inv .3))
 
 enum-told : tie.Need-enum-told Inv-loop μ-loop
 enum-told c = search needs
@@ -83,7 +83,7 @@ returns : tie.Need-returns Inv-loop μ-loop
 returns c =
     let turn = c .before .before .before in
     let given = turn .before .before .args in
-    put-end (given .saved .now) (given .words) (turn .loop .out) (turn .loop .at) (turn .loop .from) _
+    put-end (given .saved .now) (given .words) (turn .loop .out) (turn .loop .at .0) (turn .loop .from) _
     (next-nothing _ _ (sym (c .enum-told .given .1) ∙ c .before .before .next-from .ensures)) (turn .loop .inv .3)
 
 pub put-records-spec : {M : Type 1} → statement M
@@ -99,7 +99,7 @@ put-records-spec =
     mul-put-record
     element-copy-out-put-record
     put-record-requires
-    add-at
+    after-requires
     wide16-requires
     add-from
     loop-less

@@ -4,7 +4,7 @@ use Prim.Native.Nat.{_+_, _≤_}
 use mathlib.Core.Bool.{true, false}
 use native.Mathlib.Omega.{arith}
 use borrow.Author.Needs.{needs}
-use lib.ListN.{length, drop}
+use lib.ListN.{length, getD, drop}
 use Rattle.profile_rules.specs.Records.{recordSize, wordAt, beginsWithRecord}
 use Rattle.settings.specs.Settings.{exceedsMaximum}
 use Rattle.profile.proofs.Loading.{stands-whole, answer-broken, answer-code, answer-value}
@@ -14,66 +14,73 @@ use Rattle.profile.proofs.record_answer.Tie as tie
 record-stands-requires : tie.Need-record-stands-requires
 record-stands-requires c κs = search needs
 
-add-if2 : tie.Need-add-if2
-add-if2 c = search needs
+after-requires : tie.Need-after-requires
+after-requires c κs = search needs
 
 -- a record stands there
-stands : (c : tie.Then1) → let given = c .before .before .before .args in beginsWithRecord (drop (given .at) (given .s .now)) ≡ true
+stands : (c : tie.Then1) → let given = c .before .before .before .args in beginsWithRecord (drop (given .at .0) (given .s .now)) ≡ true
 stands c = sym (c .before .record-stands .ensures) ∙ c .if1 .taken
 
 -- and it is whole
-stands-room : (c : tie.Then1) → let given = c .before .before .before .args in given .at + recordSize ≤ length (given .s .now)
+stands-room : (c : tie.Then1) → let given = c .before .before .before .args in given .at .0 + recordSize ≤ length (given .s .now)
 stands-room c = stands-whole _ _ (c .before .before .before .pre) (stands c)
 
+-- its code
+code-found : (c : tie.After-byte-at) → let given = c .before .before .before .before .before .args in c .byte-at .result ≡ getD (given .s .now) (given .at .0 + 4) 0
+code-found c = rw (c .before .after .ensures) at (c .byte-at .ensures)
+
 -- whether its value is above the maximum
-above : (c : tie.After-exceeds) → let given = c .before .before .before .before .before .before .before .args in
-    c .exceeds .result ≡ exceedsMaximum (given .continuous) (given .maximum) (wordAt (given .s .now) (given .at + 5))
-above c = let given = c .before .before .before .before .before .before .before .args in c .exceeds .ensures ∙ ap (exceedsMaximum (given .continuous) (given .maximum)) (c .before .word-at .ensures)
+above : (c : tie.After-exceeds) → let given = c .before .before .before .before .before .before .before .before .before .args in
+    c .exceeds .result ≡ exceedsMaximum (given .continuous) (given .maximum) (wordAt (given .s .now) (given .at .0 + 5))
+above c =
+    let given = c .before .before .before .before .before .before .before .before .before .args in
+    c .exceeds .ensures ∙ ap (exceedsMaximum (given .continuous) (given .maximum)) (rw (c .before .before .after2 .ensures) at (c .before .word-at .ensures))
 
-shared-slice-read-if2 : tie.Need-shared-slice-read-if2
-shared-slice-read-if2 c =
-    omega (arith, stands-room (c .before))
+byte-at-requires : tie.Need-byte-at-requires
+byte-at-requires c κs = omega (arith, c .after .ensures, stands-room (c .before))
 
-add-word-at : tie.Need-add-word-at
-add-word-at c = search needs
+after-requires-2 : tie.Need-after-requires-2
+after-requires-2 c κs = search needs
 
 word-at-requires : tie.Need-word-at-requires
-word-at-requires c κs =
-    omega (arith, stands-room (c .before .before))
+word-at-requires c κs = omega (arith, c .after2 .ensures, stands-room (c .before .before .before .before))
 
 exceeds-requires : tie.Need-exceeds-requires
 exceeds-requires c κs = search needs
 
 returns : tie.Need-returns
 returns c =
-    let given = c .before .before .before .before .before .before .before .before .args in
-    answer-value (given .s .now) (given .at) (given .code) (given .maximum) (given .continuous) true (stands (c .before .before .before .before .before)) (c .before .before .before .if2 .taken)
-    (sym (c .if3 .taken) ∙ above (c .before))
+    let code = c .before .before .before .before .before in
+    let given = code .before .before .before .before .before .args in
+    answer-value (given .s .now) (given .at .0) (given .code) (given .maximum) (given .continuous) true (stands (code .before .before))
+    (sym (code-found code) ∙ c .before .before .before .before .if2 .taken) (sym (c .if3 .taken) ∙ above (c .before))
 
 returns-2 : tie.Need-returns-2
 returns-2 c =
-    let given = c .before .before .before .before .before .before .before .before .args in
-    answer-value (given .s .now) (given .at) (given .code) (given .maximum) (given .continuous) false (stands (c .before .before .before .before .before)) (c .before .before .before .if2 .taken)
-    (sym (c .if3 .left) ∙ above (c .before))
+    let code = c .before .before .before .before .before in
+    let given = code .before .before .before .before .before .args in
+    answer-value (given .s .now) (given .at .0) (given .code) (given .maximum) (given .continuous) false (stands (code .before .before))
+    (sym (code-found code) ∙ c .before .before .before .before .if2 .taken) (sym (c .if3 .left) ∙ above (c .before))
 
 returns-3 : tie.Need-returns-3
 returns-3 c =
-    let given = c .before .before .before .before .before .args in
-    answer-code (given .s .now) (given .at) (given .code) (given .maximum) (given .continuous) (stands (c .before .before)) (c .if2 .left)
+    let code = c .before in
+    let given = code .before .before .before .before .before .args in
+    answer-code (given .s .now) (given .at .0) (given .code) (given .maximum) (given .continuous) (stands (code .before .before)) (λ e. c .if2 .left (code-found code ∙ e))
 
 returns-4 : tie.Need-returns-4
 returns-4 c =
     let given = c .before .before .before .args in
-    answer-broken (given .s .now) (given .at) (given .code) (given .maximum) (given .continuous) (sym (c .before .record-stands .ensures) ∙ c .if1 .left)
+    answer-broken (given .s .now) (given .at .0) (given .code) (given .maximum) (given .continuous) (sym (c .before .record-stands .ensures) ∙ c .if1 .left)
 
 pub record-answer-spec : {M : Type 1} → statement M
 record-answer-spec =
     tie.close
     (tie.spec
     record-stands-requires
-    add-if2
-    shared-slice-read-if2
-    add-word-at
+    after-requires
+    byte-at-requires
+    after-requires-2
     word-at-requires
     exceeds-requires
     returns

@@ -14,31 +14,31 @@ use Rattle.profile.proofs.store.Tie as tie
 
 abbrev Inv-loop : tie.InvT-loop
 Inv-loop profile s₀ at₀ s at =
-    (at ≤ length profile) × (storedRecords ((length profile - at) / recordSize) s (drop at profile) ≡ storedRecords (length profile / recordSize) s₀ profile)
+    (at .0 ≤ length profile) × (storedRecords ((length profile - at .0) / recordSize) s (drop (at .0) profile) ≡ storedRecords (length profile / recordSize) s₀ profile)
 
 abbrev μ-loop : tie.MeasureT-loop
-μ-loop profile s₀ at₀ s at = length profile - at
+μ-loop profile s₀ at₀ s at = length profile - at .0
 
 loop-holds : tie.Need-loop-holds Inv-loop μ-loop
 loop-holds c = (omega arith, store-starts (c .before .args .t1) (c .before .args .profile .now))
 
-sub-loop : tie.Need-sub-loop Inv-loop μ-loop
-sub-loop c = omega arith
+sub-if1 : tie.Need-sub-if1 Inv-loop μ-loop
+sub-if1 c = omega arith
 
-add-wide : tie.Need-add-wide Inv-loop μ-loop
-add-wide c = omega arith
+after-requires : tie.Need-after-requires Inv-loop μ-loop
+after-requires c κs = omega arith
 
-shared-slice-read-wide : tie.Need-shared-slice-read-wide Inv-loop μ-loop
-shared-slice-read-wide c = omega arith
+byte-at-requires : tie.Need-byte-at-requires Inv-loop μ-loop
+byte-at-requires c κs = omega (arith, c .after .ensures)
 
 wide-requires : tie.Need-wide-requires Inv-loop μ-loop
 wide-requires c κs = search needs
 
-add-word-at : tie.Need-add-word-at Inv-loop μ-loop
-add-word-at c = omega arith
+after-requires-2 : tie.Need-after-requires-2 Inv-loop μ-loop
+after-requires-2 c κs = omega arith
 
 word-at-requires : tie.Need-word-at-requires Inv-loop μ-loop
-word-at-requires c κs = omega arith
+word-at-requires c κs = omega (arith, c .after2 .ensures)
 
 mul-s : tie.Need-mul-s Inv-loop μ-loop
 mul-s c = omega arith
@@ -52,23 +52,25 @@ mul-s-2 c = omega arith
 element-write-s-2 : tie.Need-element-write-s-2 Inv-loop μ-loop
 element-write-s-2 c = omega arith
 
-add-at : tie.Need-add-at Inv-loop μ-loop
-add-at c = omega arith
+after-requires-3 : tie.Need-after-requires-3 Inv-loop μ-loop
+after-requires-3 c κs = omega arith
 
 loop-less : tie.Need-loop-less Inv-loop μ-loop
-loop-less c = omega arith
+loop-less c = omega (arith, c .after3 .ensures)
 
 loop-again : tie.Need-loop-again Inv-loop μ-loop
 unfolding withValue
 loop-again c =
-    let turn = c .before .before .before .before in
+    let turn = c .before .before .before .before .before .before .before .before in
     let p = turn .before .before .args .profile .now in
-    (omega arith, store-turn (turn .loop .s) _ p (turn .loop .at) _ _ (omega arith) (c .before .wide .ensures .0) (c .word-at .ensures) (turn .loop .inv .1))
+    let code = c .before .before .before .wide .ensures .0 ∙ (rw (c .before .before .before .before .before .after .ensures) at (c .before .before .before .before .byte-at .ensures)) in
+    let value = rw (c .before .before .after2 .ensures) at (c .before .word-at .ensures) in
+    rw (c .after3 .ensures) (omega arith, store-turn (turn .loop .s) _ p (turn .loop .at .0) _ _ (omega arith) code value (turn .loop .inv .1))
 
 returns : tie.Need-returns Inv-loop μ-loop
 returns c =
-    let turn = c .before in
-    sym (store-none (turn .loop .s) (turn .before .before .args .profile .now) (turn .loop .at) (omega arith)) ∙ turn .loop .inv .1
+    let turn = c .before .before in
+    sym (store-none (turn .loop .s) (turn .before .before .args .profile .now) (turn .loop .at .0) (omega arith)) ∙ turn .loop .inv .1
 
 pub store-spec : {M : Type 1} → statement M
 store-spec =
@@ -77,17 +79,17 @@ store-spec =
     Inv-loop
     μ-loop
     loop-holds
-    sub-loop
-    add-wide
-    shared-slice-read-wide
+    sub-if1
+    after-requires
+    byte-at-requires
     wide-requires
-    add-word-at
+    after-requires-2
     word-at-requires
     mul-s
     element-write-s
     mul-s-2
     element-write-s-2
-    add-at
+    after-requires-3
     loop-less
     loop-again
     returns)

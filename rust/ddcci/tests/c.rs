@@ -107,6 +107,14 @@ fn the_controller_answers_an_i2c_host() {
     }
 }
 
+/// The programs that count run by the commands that they show. Their numbers are the compiler's, and no test holds them.
+#[test]
+fn the_counters_run() {
+    for (name, lines) in [("copies", 11), ("stack", 10)] {
+        assert_eq!(documented(name).lines().count(), lines, "{name}");
+    }
+}
+
 /// What `c/headers.c` writes behind the meanings of the answer numbers.
 const HEADERS_WRITE: &str = "\
 answer 0: command 01, code 10, value 0; read: 0, 01, 10, 0

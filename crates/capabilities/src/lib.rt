@@ -65,15 +65,15 @@ fn word_end(text: &[u8], start: Position) -> Position
     requires { ⌜ start .0 ≤ length (now text) ⌝ }
     ensures { λ r. ⌜ (r .0 ≡ start .0 + letters (drop (start .0) (now (text .entry)))) × (r .0 ≤ length (now (text .entry))) ⌝ }
 {
-    let mut at = start.0;
-    while at < text.len() {
-        if is_letter(text[at]) {
-            at += 1;
+    let mut i = start.0;
+    while i < text.len() {
+        if is_letter(text[i]) {
+            i += 1;
         } else {
-            return Position(at);
+            return Position(i);
         }
     }
-    Position(at)
+    Position(i)
 }
 
 // Returns the position past the spaces that stand from `start` on.
@@ -81,24 +81,24 @@ fn skip_spaces(text: &[u8], start: Position) -> Position
     requires { ⌜ start .0 ≤ length (now text) ⌝ }
     ensures { λ r. ⌜ (r .0 ≡ start .0 + spaces (drop (start .0) (now (text .entry)))) × (r .0 ≤ length (now (text .entry))) ⌝ }
 {
-    let mut at = start.0;
-    while at < text.len() {
-        if text[at] == SPACE {
-            at += 1;
+    let mut i = start.0;
+    while i < text.len() {
+        if text[i] == SPACE {
+            i += 1;
         } else {
-            return Position(at);
+            return Position(i);
         }
     }
-    Position(at)
+    Position(i)
 }
 
 // Returns whether a "(" stands at a position.
-fn opens_at(text: &[u8], position: Position) -> bool
-    ensures { λ r. ⌜ r ≡ eqb (getD (now (text .entry)) (position .0) 0) 0x28 ⌝ }
+fn opens_at(text: &[u8], at: Position) -> bool
+    ensures { λ r. ⌜ r ≡ eqb (getD (now (text .entry)) (at .0) 0) 0x28 ⌝ }
 {
-    let at = position.0;
-    if at < text.len() {
-        return text[at] == OPEN;
+    let i = at.0;
+    if i < text.len() {
+        return text[i] == OPEN;
     }
     false
 }
@@ -109,19 +109,19 @@ fn check_group(text: &[u8], start: Position, left: usize, count: usize, room: us
     requires { ⌜ (start .0 ≤ length (now text)) × (left < deepest) × (count ≤ room) ⌝ }
     ensures { λ r. ⌜ Checked room (start .0) count (around left) (now (text .entry)) r ⌝ }
 {
-    let mut position = skip_spaces(text, start);
+    let mut at = skip_spaces(text, start);
     let mut n = count;
-    while position.0 < text.len() {
-        let at = position.0;
-        let past = at + 1;
-        if text[at] == CLOSE {
+    while at.0 < text.len() {
+        let i = at.0;
+        let past = i + 1;
+        if text[i] == CLOSE {
             return Group::Closed(Position(past), n);
         }
-        if !is_letter(text[at]) {
-            return Group::Stopped(answer::WRONG_GRAMMAR, position);
+        if !is_letter(text[i]) {
+            return Group::Stopped(answer::WRONG_GRAMMAR, at);
         }
         if room <= n {
-            return Group::Stopped(answer::NO_NODE_ROOM, position);
+            return Group::Stopped(answer::NO_NODE_ROOM, at);
         }
         let next = skip_spaces(text, word_end(text, Position(past)));
         if opens_at(text, next) {
@@ -132,17 +132,17 @@ fn check_group(text: &[u8], start: Position, left: usize, count: usize, room: us
             let inner = check_group(text, Position(list), left - 1, n + 1, room);
             match inner {
                 Group::Closed(behind, made) => {
-                    position = skip_spaces(text, behind);
+                    at = skip_spaces(text, behind);
                     n = made;
                 }
                 Group::Stopped(number, place) => return Group::Stopped(number, place),
             }
         } else {
-            position = next;
+            at = next;
             n += 1;
         }
     }
-    Group::Stopped(answer::WRONG_GRAMMAR, position)
+    Group::Stopped(answer::WRONG_GRAMMAR, at)
 }
 
 // Returns whether a node has a group, as a buffer holds it.
@@ -189,12 +189,12 @@ fn fill_group(
     requires { ⌜ Fillable (start .0) left count (now text) (buffers (now starts) (now lengths) (now parents) (now groups)) ⌝ }
     ensures { λ r. ⌜ Filled (start .0) left count parent (now (text .entry)) (buffers (now (starts .entry)) (now (lengths .entry)) (now (parents .entry)) (now (groups .entry))) (buffers (now (starts .exit)) (now (lengths .exit)) (now (parents .exit)) (now (groups .exit))) (r .next .0) (r .count) ⌝ }
 {
-    let mut position = skip_spaces(text, start);
+    let mut at = skip_spaces(text, start);
     let mut n = count;
-    while position.0 < text.len() {
-        let at = position.0;
-        let past = at + 1;
-        if text[at] == CLOSE {
+    while at.0 < text.len() {
+        let i = at.0;
+        let past = i + 1;
+        if text[i] == CLOSE {
             return Past {
                 next: Position(past),
                 count: n,
@@ -203,17 +203,7 @@ fn fill_group(
         let end = word_end(text, Position(past));
         let next = skip_spaces(text, end);
         let opens = opens_at(text, next);
-        put_node(
-            n,
-            position,
-            end,
-            parent,
-            opens,
-            starts,
-            lengths,
-            parents,
-            groups,
-        );
+        put_node(n, at, end, parent, opens, starts, lengths, parents, groups);
         if opens {
             let list = next.0 + 1;
             let inner = fill_group(
@@ -227,18 +217,15 @@ fn fill_group(
                 parents,
                 groups,
             );
-            position = skip_spaces(text, inner.next);
+            at = skip_spaces(text, inner.next);
             n = inner.count;
         } else {
-            position = next;
+            at = next;
             n += 1;
         }
     }
     // Not reached in an accepted string.
-    Past {
-        next: position,
-        count: n,
-    }
+    Past { next: at, count: n }
 }
 
 // Returns the lesser of two numbers.

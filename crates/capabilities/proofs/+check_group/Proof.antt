@@ -41,19 +41,19 @@ given t =
     (skip-spaces-reads.Asked, skip-spaces-reads.Learnt, is-letter-reads.Asked, is-letter-reads.Learnt, word-end-reads.Asked, word-end-reads.Learnt, opens-at-reads.Asked, opens-at-reads.Learnt, check-group-below t, check-group.Post)
 
 abbrev check-group-Inv-loop : check-group-lts.InvT-loop
-check-group-Inv-loop text left count room position₀ n₀ position n = Going room (around left) (position₀ .0) count (position .0) n text
+check-group-Inv-loop text left count room at₀ n₀ at n = Going room (around left) (at₀ .0) count (at .0) n text
 
 abbrev check-group-μ-loop : check-group-lts.MeasureT-loop
-check-group-μ-loop text left count room position₀ n₀ position n = length text - position .0
+check-group-μ-loop text left count room at₀ n₀ at n = length text - at .0
 
 -- a letter stands at the loop's position
 letter-here : (t : ℕ) (c : check-group-lts.Else3 (given t) (check-group-at t) check-group.Post check-group-Inv-loop check-group-μ-loop)
-    → isLetter (kindOf (getD (c .before .before .before .before .before .before .before .before .before .before .args .text .now) (c .before .before .before .before .before .before .before .loop .position .0) 0)) ≡ true
+    → isLetter (kindOf (getD (c .before .before .before .before .before .before .before .before .before .before .args .text .now) (c .before .before .before .before .before .before .before .loop .at .0) 0)) ≡ true
 letter-here t c = sym (c .before .is-letter .ensures) ∙ not-false _ (c .if3 .left)
 
 -- the word there, and the spaces behind it
 word : (t : ℕ) (c : check-group-lts.After-skip-spaces2 (given t) (check-group-at t) check-group.Post check-group-Inv-loop check-group-μ-loop)
-    → Passed (c .before .before .before .before .before .before .before .before .before .before .before .before .before .args .text .now) (c .before .before .before .before .before .before .before .before .before .before .loop .position .0) (c .before .word-end .result .0) (c .skip-spaces2 .result .0)
+    → Passed (c .before .before .before .before .before .before .before .before .before .before .before .before .before .args .text .now) (c .before .before .before .before .before .before .before .before .before .before .loop .at .0) (c .before .word-end .result .0) (c .skip-spaces2 .result .0)
 word t c = record { inside = c .before .before .before .before .before .before .before .before .if1 .taken; letter = letter-here t (c .before .before .before); ends = c .before .word-end .ensures .0; rests = c .skip-spaces2 .ensures .0 }
 
 -- whether a "(" stands behind them
@@ -85,7 +85,7 @@ check-group-returns t c =
     let x = c .before .before .before .before .before .before .before .args in
     let s : List ℕ = x .text .now in
     from-start (x .room) (around (x .left)) (x .start .0) (x .count) (c .before .before .before .before .before .skip-spaces .result .0) s _ (c .before .before .before .before .before .skip-spaces .ensures .0)
-    (at-close (x .room) (around (x .left)) (c .before .before .before .before .before .skip-spaces .result .0) (x .count) (l .position .0) (l .n) s (l .inv) (c .before .before .if1 .taken) (c .if2 .taken))
+    (at-close (x .room) (around (x .left)) (c .before .before .before .before .before .skip-spaces .result .0) (x .count) (l .at .0) (l .n) s (l .inv) (c .before .before .if1 .taken) (c .if2 .taken))
 
 check-group-shared-slice-read-is-letter : (t : ℕ) → check-group-lts.Need-shared-slice-read-is-letter (given t) (check-group-at t) check-group.Post check-group-Inv-loop check-group-μ-loop
 check-group-shared-slice-read-is-letter t c = search needs
@@ -99,7 +99,7 @@ check-group-returns-2 t c =
     let x = c .before .before .before .before .before .before .before .before .before .before .args in
     let s : List ℕ = x .text .now in
     from-start (x .room) (around (x .left)) (x .start .0) (x .count) (c .before .before .before .before .before .before .before .before .skip-spaces .result .0) s _ (c .before .before .before .before .before .before .before .before .skip-spaces .ensures .0)
-    (at-other (x .room) (around (x .left)) (c .before .before .before .before .before .before .before .before .skip-spaces .result .0) (x .count) (l .position .0) (l .n) s (l .inv) (c .before .before .before .before .before .if1 .taken) (c .before .before .before .if2 .left) (sym (c .before .is-letter .ensures) ∙ not-true _ (c .if3 .taken)))
+    (at-other (x .room) (around (x .left)) (c .before .before .before .before .before .before .before .before .skip-spaces .result .0) (x .count) (l .at .0) (l .n) s (l .inv) (c .before .before .before .before .before .if1 .taken) (c .before .before .before .if2 .left) (sym (c .before .is-letter .ensures) ∙ not-true _ (c .if3 .taken)))
 
 check-group-returns-3 : (t : ℕ) → check-group-lts.Need-returns-3 (given t) (check-group-at t) check-group.Post check-group-Inv-loop check-group-μ-loop
 check-group-returns-3 t c =
@@ -107,7 +107,7 @@ check-group-returns-3 t c =
     let x = c .before .before .before .before .before .before .before .before .before .before .before .args in
     let s : List ℕ = x .text .now in
     from-start (x .room) (around (x .left)) (x .start .0) (x .count) (c .before .before .before .before .before .before .before .before .before .skip-spaces .result .0) s _ (c .before .before .before .before .before .before .before .before .before .skip-spaces .ensures .0)
-    (at-full (x .room) (around (x .left)) (c .before .before .before .before .before .before .before .before .before .skip-spaces .result .0) (x .count) (l .position .0) (l .n) s (l .inv) (c .before .before .before .before .before .before .if1 .taken) (letter-here t (c .before)) (c .if4 .taken))
+    (at-full (x .room) (around (x .left)) (c .before .before .before .before .before .before .before .before .before .skip-spaces .result .0) (x .count) (l .at .0) (l .n) s (l .inv) (c .before .before .before .before .before .before .if1 .taken) (letter-here t (c .before)) (c .if4 .taken))
 
 check-group-word-end-requires : (t : ℕ) → check-group-lts.Need-word-end-requires (given t) (check-group-at t) check-group.Post check-group-Inv-loop check-group-μ-loop
 check-group-word-end-requires t c κs = search needs
@@ -124,7 +124,7 @@ check-group-returns-4 t c =
     let x = c .before .before .before .before .before .before .before .before .before .before .before .before .before .before .before .before .args in
     let s : List ℕ = x .text .now in
     from-start (x .room) (around (x .left)) (x .start .0) (x .count) (c .before .before .before .before .before .before .before .before .before .before .before .before .before .before .skip-spaces .result .0) s _ (c .before .before .before .before .before .before .before .before .before .before .before .before .before .before .skip-spaces .ensures .0)
-    (at-deep (x .room) (around (x .left)) (c .before .before .before .before .before .before .before .before .before .before .before .before .before .before .skip-spaces .result .0) (x .count) (l .position .0) (l .n) s (l .inv) (c .before .before .before .before .word-end .result .0) (c .before .before .before .skip-spaces2 .result .0) (word t (c .before .before .before)) (c .before .before .before .before .before .if4 .left) (is-open t (c .before)) (omega arith))
+    (at-deep (x .room) (around (x .left)) (c .before .before .before .before .before .before .before .before .before .before .before .before .before .before .skip-spaces .result .0) (x .count) (l .at .0) (l .n) s (l .inv) (c .before .before .before .before .word-end .result .0) (c .before .before .before .skip-spaces2 .result .0) (word t (c .before .before .before)) (c .before .before .before .before .before .if4 .left) (is-open t (c .before)) (omega arith))
 
 check-group-add-list : (t : ℕ) → check-group-lts.Need-add-list (given t) (check-group-at t) check-group.Post check-group-Inv-loop check-group-μ-loop
 check-group-add-list t c = search needs
@@ -150,7 +150,7 @@ check-group-skip-spaces-requires-3 t c κs =
     let x = c .before .before .before .before .before .before .before .before .before .before .before .before .before .before .before .before .before .before .before .before .before .args in
     let s : List ℕ = x .text .now in
     let g = c .before .inner .given in
-    inner-bounds (x .room) (around (x .left)) (c .before .before .before .before .before .before .before .before .before .before .before .before .before .before .before .before .before .before .before .skip-spaces .result .0) (x .count) (l .position .0) (l .n) s (l .inv) (c .before .before .before .before .before .before .before .before .before .word-end .result .0) (c .before .before .before .before .before .before .before .before .skip-spaces2 .result .0) (word t (c .before .before .before .before .before .before .before .before)) (c .before .before .before .before .before .before .before .before .before .before .if4 .left) (is-open t (c .before .before .before .before .before .before)) (around (x .left - 1)) (omega (arith, c .before .before .before .before .before .before .before .before .before .before .before .before .before .before .before .before .before .before .before .before .before .pre .1 .1, c .before .before .before .before .before .if6 .left)) (omega (arith, c .before .before .before .before .before .before .before .before .before .before .before .before .before .before .before .before .before .before .before .before .before .pre .1 .1, c .before .before .before .before .before .if6 .left)) (c .before .before .before .check-group .result) (c .before .before .before .check-group .ensures) (g .0 .0) (g .0 .1 .0) (g .1) .1
+    inner-bounds (x .room) (around (x .left)) (c .before .before .before .before .before .before .before .before .before .before .before .before .before .before .before .before .before .before .before .skip-spaces .result .0) (x .count) (l .at .0) (l .n) s (l .inv) (c .before .before .before .before .before .before .before .before .before .word-end .result .0) (c .before .before .before .before .before .before .before .before .skip-spaces2 .result .0) (word t (c .before .before .before .before .before .before .before .before)) (c .before .before .before .before .before .before .before .before .before .before .if4 .left) (is-open t (c .before .before .before .before .before .before)) (around (x .left - 1)) (omega (arith, c .before .before .before .before .before .before .before .before .before .before .before .before .before .before .before .before .before .before .before .before .before .pre .1 .1, c .before .before .before .before .before .if6 .left)) (omega (arith, c .before .before .before .before .before .before .before .before .before .before .before .before .before .before .before .before .before .before .before .before .before .pre .1 .1, c .before .before .before .before .before .if6 .left)) (c .before .before .before .check-group .result) (c .before .before .before .check-group .ensures) (g .0 .0) (g .0 .1 .0) (g .1) .1
 
 check-group-loop-less : (t : ℕ) → check-group-lts.Need-loop-less (given t) (check-group-at t) check-group.Post check-group-Inv-loop check-group-μ-loop
 check-group-loop-less t c =
@@ -158,7 +158,7 @@ check-group-loop-less t c =
     let x = c .before .before .before .before .before .before .before .before .before .before .before .before .before .before .before .before .before .before .before .before .before .before .args in
     let s : List ℕ = x .text .now in
     let g = c .before .before .inner .given in
-    let b = inner-bounds (x .room) (around (x .left)) (c .before .before .before .before .before .before .before .before .before .before .before .before .before .before .before .before .before .before .before .before .skip-spaces .result .0) (x .count) (l .position .0) (l .n) s (l .inv) (c .before .before .before .before .before .before .before .before .before .before .word-end .result .0) (c .before .before .before .before .before .before .before .before .before .skip-spaces2 .result .0) (word t (c .before .before .before .before .before .before .before .before .before)) (c .before .before .before .before .before .before .before .before .before .before .before .if4 .left) (is-open t (c .before .before .before .before .before .before .before)) (around (x .left - 1)) (omega (arith, c .before .before .before .before .before .before .before .before .before .before .before .before .before .before .before .before .before .before .before .before .before .before .pre .1 .1, c .before .before .before .before .before .before .if6 .left)) (omega (arith, c .before .before .before .before .before .before .before .before .before .before .before .before .before .before .before .before .before .before .before .before .before .before .pre .1 .1, c .before .before .before .before .before .before .if6 .left)) (c .before .before .before .before .check-group .result) (c .before .before .before .before .check-group .ensures) (g .0 .0) (g .0 .1 .0) (g .1) in
+    let b = inner-bounds (x .room) (around (x .left)) (c .before .before .before .before .before .before .before .before .before .before .before .before .before .before .before .before .before .before .before .before .skip-spaces .result .0) (x .count) (l .at .0) (l .n) s (l .inv) (c .before .before .before .before .before .before .before .before .before .before .word-end .result .0) (c .before .before .before .before .before .before .before .before .before .skip-spaces2 .result .0) (word t (c .before .before .before .before .before .before .before .before .before)) (c .before .before .before .before .before .before .before .before .before .before .before .if4 .left) (is-open t (c .before .before .before .before .before .before .before)) (around (x .left - 1)) (omega (arith, c .before .before .before .before .before .before .before .before .before .before .before .before .before .before .before .before .before .before .before .before .before .before .pre .1 .1, c .before .before .before .before .before .before .if6 .left)) (omega (arith, c .before .before .before .before .before .before .before .before .before .before .before .before .before .before .before .before .before .before .before .before .before .before .pre .1 .1, c .before .before .before .before .before .before .if6 .left)) (c .before .before .before .before .check-group .result) (c .before .before .before .before .check-group .ensures) (g .0 .0) (g .0 .1 .0) (g .1) in
     omega (arith, c .skip-spaces3 .ensures .0)
 
 check-group-loop-again : (t : ℕ) → check-group-lts.Need-loop-again (given t) (check-group-at t) check-group.Post check-group-Inv-loop check-group-μ-loop
@@ -167,7 +167,7 @@ check-group-loop-again t c =
     let x = c .before .before .before .before .before .before .before .before .before .before .before .before .before .before .before .before .before .before .before .before .before .before .args in
     let s : List ℕ = x .text .now in
     let g = c .before .before .inner .given in
-    past-group (x .room) (around (x .left)) (c .before .before .before .before .before .before .before .before .before .before .before .before .before .before .before .before .before .before .before .before .skip-spaces .result .0) (x .count) (l .position .0) (l .n) s (l .inv) (c .before .before .before .before .before .before .before .before .before .before .word-end .result .0) (c .before .before .before .before .before .before .before .before .before .skip-spaces2 .result .0) (word t (c .before .before .before .before .before .before .before .before .before)) (c .before .before .before .before .before .before .before .before .before .before .before .if4 .left) (is-open t (c .before .before .before .before .before .before .before)) (around (x .left - 1)) (omega (arith, c .before .before .before .before .before .before .before .before .before .before .before .before .before .before .before .before .before .before .before .before .before .before .pre .1 .1, c .before .before .before .before .before .before .if6 .left)) (omega (arith, c .before .before .before .before .before .before .before .before .before .before .before .before .before .before .before .before .before .before .before .before .before .before .pre .1 .1, c .before .before .before .before .before .before .if6 .left)) (c .before .before .before .before .check-group .result) (c .before .before .before .before .check-group .ensures) (g .0 .0) (g .0 .1 .0) (c .skip-spaces3 .result .0) (g .1) (c .skip-spaces3 .ensures .0) (c .skip-spaces3 .ensures .1)
+    past-group (x .room) (around (x .left)) (c .before .before .before .before .before .before .before .before .before .before .before .before .before .before .before .before .before .before .before .before .skip-spaces .result .0) (x .count) (l .at .0) (l .n) s (l .inv) (c .before .before .before .before .before .before .before .before .before .before .word-end .result .0) (c .before .before .before .before .before .before .before .before .before .skip-spaces2 .result .0) (word t (c .before .before .before .before .before .before .before .before .before)) (c .before .before .before .before .before .before .before .before .before .before .before .if4 .left) (is-open t (c .before .before .before .before .before .before .before)) (around (x .left - 1)) (omega (arith, c .before .before .before .before .before .before .before .before .before .before .before .before .before .before .before .before .before .before .before .before .before .before .pre .1 .1, c .before .before .before .before .before .before .if6 .left)) (omega (arith, c .before .before .before .before .before .before .before .before .before .before .before .before .before .before .before .before .before .before .before .before .before .before .pre .1 .1, c .before .before .before .before .before .before .if6 .left)) (c .before .before .before .before .check-group .result) (c .before .before .before .before .check-group .ensures) (g .0 .0) (g .0 .1 .0) (c .skip-spaces3 .result .0) (g .1) (c .skip-spaces3 .ensures .0) (c .skip-spaces3 .ensures .1)
 
 check-group-enum-known-inner-2 : (t : ℕ) → check-group-lts.Need-enum-known-inner-2 (given t) (check-group-at t) check-group.Post check-group-Inv-loop check-group-μ-loop
 check-group-enum-known-inner-2 t c = search needs
@@ -179,7 +179,7 @@ check-group-returns-5 t c =
     let s : List ℕ = x .text .now in
     let g = c .before .inner2 .given in
     from-start (x .room) (around (x .left)) (x .start .0) (x .count) (c .before .before .before .before .before .before .before .before .before .before .before .before .before .before .before .before .before .before .before .skip-spaces .result .0) s _ (c .before .before .before .before .before .before .before .before .before .before .before .before .before .before .before .before .before .before .before .skip-spaces .ensures .0)
-    (inner-stops (x .room) (around (x .left)) (c .before .before .before .before .before .before .before .before .before .before .before .before .before .before .before .before .before .before .before .skip-spaces .result .0) (x .count) (l .position .0) (l .n) s (l .inv) (c .before .before .before .before .before .before .before .before .before .word-end .result .0) (c .before .before .before .before .before .before .before .before .skip-spaces2 .result .0) (word t (c .before .before .before .before .before .before .before .before)) (c .before .before .before .before .before .before .before .before .before .before .if4 .left) (is-open t (c .before .before .before .before .before .before)) (around (x .left - 1)) (omega (arith, c .before .before .before .before .before .before .before .before .before .before .before .before .before .before .before .before .before .before .before .before .before .pre .1 .1, c .before .before .before .before .before .if6 .left)) (omega (arith, c .before .before .before .before .before .before .before .before .before .before .before .before .before .before .before .before .before .before .before .before .before .pre .1 .1, c .before .before .before .before .before .if6 .left)) (c .before .before .before .check-group .result) (c .before .before .before .check-group .ensures) (g .0 .0) (g .0 .1 .0) (g .1))
+    (inner-stops (x .room) (around (x .left)) (c .before .before .before .before .before .before .before .before .before .before .before .before .before .before .before .before .before .before .before .skip-spaces .result .0) (x .count) (l .at .0) (l .n) s (l .inv) (c .before .before .before .before .before .before .before .before .before .word-end .result .0) (c .before .before .before .before .before .before .before .before .skip-spaces2 .result .0) (word t (c .before .before .before .before .before .before .before .before)) (c .before .before .before .before .before .before .before .before .before .before .if4 .left) (is-open t (c .before .before .before .before .before .before)) (around (x .left - 1)) (omega (arith, c .before .before .before .before .before .before .before .before .before .before .before .before .before .before .before .before .before .before .before .before .before .pre .1 .1, c .before .before .before .before .before .if6 .left)) (omega (arith, c .before .before .before .before .before .before .before .before .before .before .before .before .before .before .before .before .before .before .before .before .before .pre .1 .1, c .before .before .before .before .before .if6 .left)) (c .before .before .before .check-group .result) (c .before .before .before .check-group .ensures) (g .0 .0) (g .0 .1 .0) (g .1))
 
 check-group-add-n : (t : ℕ) → check-group-lts.Need-add-n (given t) (check-group-at t) check-group.Post check-group-Inv-loop check-group-μ-loop
 check-group-add-n t c = search needs
@@ -192,7 +192,7 @@ check-group-loop-again-2 t c =
     let l = c .before .before .before .before .before .before .before .before .before .before .before .before .loop in
     let x = c .before .before .before .before .before .before .before .before .before .before .before .before .before .before .before .args in
     let s : List ℕ = x .text .now in
-    past-word (x .room) (around (x .left)) (c .before .before .before .before .before .before .before .before .before .before .before .before .before .skip-spaces .result .0) (x .count) (l .position .0) (l .n) s (l .inv) (c .before .before .before .word-end .result .0) (c .before .before .skip-spaces2 .result .0) (word t (c .before .before)) (c .before .before .before .before .if4 .left) (c .before .before .skip-spaces2 .ensures .1) (is-shut t c)
+    past-word (x .room) (around (x .left)) (c .before .before .before .before .before .before .before .before .before .before .before .before .before .skip-spaces .result .0) (x .count) (l .at .0) (l .n) s (l .inv) (c .before .before .before .word-end .result .0) (c .before .before .skip-spaces2 .result .0) (word t (c .before .before)) (c .before .before .before .before .if4 .left) (c .before .before .skip-spaces2 .ensures .1) (is-shut t c)
 
 check-group-returns-6 : (t : ℕ) → check-group-lts.Need-returns-6 (given t) (check-group-at t) check-group.Post check-group-Inv-loop check-group-μ-loop
 check-group-returns-6 t c =
@@ -200,7 +200,7 @@ check-group-returns-6 t c =
     let x = c .before .before .before .before .before .args in
     let s : List ℕ = x .text .now in
     from-start (x .room) (around (x .left)) (x .start .0) (x .count) (c .before .before .before .skip-spaces .result .0) s _ (c .before .before .before .skip-spaces .ensures .0)
-    (at-end (x .room) (around (x .left)) (c .before .before .before .skip-spaces .result .0) (x .count) (l .position .0) (l .n) s (l .inv) (c .if1 .left))
+    (at-end (x .room) (around (x .left)) (c .before .before .before .skip-spaces .result .0) (x .count) (l .at .0) (l .n) s (l .inv) (c .if1 .left))
 
 pub +check-group-spec : {M : Type 1} → statement M
 +check-group-spec = close μ-check-group λ t. check-group-lts.spec (given t)

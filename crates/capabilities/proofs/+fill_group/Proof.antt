@@ -41,22 +41,22 @@ given t =
     (skip-spaces-reads.Asked, skip-spaces-reads.Learnt, word-end-reads.Asked, word-end-reads.Learnt, opens-at-reads.Asked, opens-at-reads.Learnt, put-node-reads.Asked, put-node-reads.Learnt, fill-group-below t, fill-group.Post)
 
 abbrev fill-group-Inv-loop : fill-group-lts.InvT-loop
-fill-group-Inv-loop text left parent count starts₀ lengths₀ parents₀ groups₀ position₀ n₀ starts lengths parents groups position n =
-    Filling (bufferRoom (buffers starts₀ lengths₀ parents₀ groups₀)) (around left) (position₀ .0) count parent (position .0) n text (buffers starts₀ lengths₀ parents₀ groups₀) (buffers starts lengths parents groups)
+fill-group-Inv-loop text left parent count starts₀ lengths₀ parents₀ groups₀ at₀ n₀ starts lengths parents groups at n =
+    Filling (bufferRoom (buffers starts₀ lengths₀ parents₀ groups₀)) (around left) (at₀ .0) count parent (at .0) n text (buffers starts₀ lengths₀ parents₀ groups₀) (buffers starts lengths parents groups)
 
 abbrev fill-group-μ-loop : fill-group-lts.MeasureT-loop
-fill-group-μ-loop text left parent count starts₀ lengths₀ parents₀ groups₀ position₀ n₀ starts lengths parents groups position n = length text - position .0
+fill-group-μ-loop text left parent count starts₀ lengths₀ parents₀ groups₀ at₀ n₀ starts lengths parents groups at n = length text - at .0
 
 -- the word at the loop's position, and the spaces behind it
 word : (t : ℕ) (c : fill-group-lts.After-skip-spaces2 (given t) (fill-group-at t) fill-group.Post fill-group-Inv-loop fill-group-μ-loop)
-    → Passed (c .before .before .before .before .before .before .before .before .before .before .before .before .before .args .text .now) (c .before .before .before .before .before .before .loop .position .0) (c .before .word-end .result .0) (c .skip-spaces2 .result .0)
+    → Passed (c .before .before .before .before .before .before .before .before .before .before .before .before .before .args .text .now) (c .before .before .before .before .before .before .loop .at .0) (c .before .word-end .result .0) (c .skip-spaces2 .result .0)
 word t c =
     let l = c .before .before .before .before .before .before .loop in
     let x = c .before .before .before .before .before .before .before .before .before .before .before .before .before .args in
     let s : List ℕ = x .text .now in
     let t₀ : Buffers = buffers (x .starts .now) (x .lengths .now) (x .parents .now) (x .groups .now) in
     let u : Buffers = buffers (l .starts) (l .lengths) (l .parents) (l .groups) in
-    record { inside = c .before .before .before .before .if1 .taken; letter = letter-there (bufferRoom t₀) (around (x .left)) (c .before .before .before .before .before .before .before .skip-spaces .result .0) (x .count) (x .parent) (l .position .0) (l .n) s t₀ u (l .inv) (c .before .before .if2 .left); ends = c .before .word-end .ensures .0; rests = c .skip-spaces2 .ensures .0 }
+    record { inside = c .before .before .before .before .if1 .taken; letter = letter-there (bufferRoom t₀) (around (x .left)) (c .before .before .before .before .before .before .before .skip-spaces .result .0) (x .count) (x .parent) (l .at .0) (l .n) s t₀ u (l .inv) (c .before .before .if2 .left); ends = c .before .word-end .ensures .0; rests = c .skip-spaces2 .ensures .0 }
 
 -- whether a "(" stands behind them
 is-open : (t : ℕ) (c : fill-group-lts.Then3 (given t) (fill-group-at t) fill-group.Post fill-group-Inv-loop fill-group-μ-loop)
@@ -103,7 +103,7 @@ fill-group-returns t c =
     let t₀ : Buffers = buffers (x .starts .now) (x .lengths .now) (x .parents .now) (x .groups .now) in
     let u : Buffers = buffers (l .starts) (l .lengths) (l .parents) (l .groups) in
     from-start (x .left) (x .start .0) (x .count) (x .parent) (c .before .before .before .before .before .skip-spaces .result .0) s t₀ u _ (l .n) (c .before .before .before .before .before .skip-spaces .ensures .0)
-    (at-close (x .left) (c .before .before .before .before .before .skip-spaces .result .0) (x .count) (x .parent) (l .position .0) (l .n) s t₀ u (l .inv) (c .before .before .if1 .taken) (c .if2 .taken))
+    (at-close (x .left) (c .before .before .before .before .before .skip-spaces .result .0) (x .count) (x .parent) (l .at .0) (l .n) s t₀ u (l .inv) (c .before .before .if1 .taken) (c .if2 .taken))
 
 fill-group-word-end-requires : (t : ℕ) → fill-group-lts.Need-word-end-requires (given t) (fill-group-at t) fill-group.Post fill-group-Inv-loop fill-group-μ-loop
 fill-group-word-end-requires t c κs = search needs
@@ -123,7 +123,7 @@ fill-group-put-node-requires t c κs =
     let u : Buffers = buffers (l .starts) (l .lengths) (l .parents) (l .groups) in
     let q = c .before .before .before .before .before .before .before .before .before .before .before .before .before .before .before .before .before .before .pre .1 in
     let w = c .before .before .before .before .before .before .word-end .ensures in
-    (omega (arith, w .0), omega (arith, w .1, q .small), subst (λ (j : ℕ). l .n < j) (sym (room-same t₀ u (l .inv .sizes))) (roomy (bufferRoom t₀) (around (x .left)) (c .before .before .before .before .before .before .before .before .before .before .before .before .skip-spaces .result .0) (x .count) (x .parent) (l .position .0) (l .n) s t₀ u (l .inv) (c .before .before .before .before .before .before .word-end .result .0) (c .before .before .before .before .before .skip-spaces2 .result .0) (word t (c .before .before .before .before .before))))
+    (omega (arith, w .0), omega (arith, w .1, q .small), subst (λ (j : ℕ). l .n < j) (sym (room-same t₀ u (l .inv .sizes))) (roomy (bufferRoom t₀) (around (x .left)) (c .before .before .before .before .before .before .before .before .before .before .before .before .skip-spaces .result .0) (x .count) (x .parent) (l .at .0) (l .n) s t₀ u (l .inv) (c .before .before .before .before .before .before .word-end .result .0) (c .before .before .before .before .before .skip-spaces2 .result .0) (word t (c .before .before .before .before .before))))
 
 fill-group-add-list : (t : ℕ) → fill-group-lts.Need-add-list (given t) (fill-group-at t) fill-group.Post fill-group-Inv-loop fill-group-μ-loop
 fill-group-add-list t c =
@@ -138,7 +138,7 @@ fill-group-sub-fill-group t c =
     let s : List ℕ = x .text .now in
     let t₀ : Buffers = buffers (x .starts .now) (x .lengths .now) (x .parents .now) (x .groups .now) in
     let u : Buffers = buffers (l .starts) (l .lengths) (l .parents) (l .groups) in
-    omega (arith, low (bufferRoom t₀) (around (x .left)) (c .before .before .before .before .before .before .before .before .before .before .before .before .before .before .before .before .before .before .before .before .before .before .before .skip-spaces .result .0) (x .count) (x .parent) (l .position .0) (l .n) s t₀ u (l .inv) (c .before .before .before .before .before .before .before .before .before .before .before .before .before .before .before .before .before .word-end .result .0) (c .before .before .before .before .before .before .before .before .before .before .before .before .before .before .before .before .skip-spaces2 .result .0) (word t (c .before .before .before .before .before .before .before .before .before .before .before .before .before .before .before .before)) (is-open t (c .before)))
+    omega (arith, low (bufferRoom t₀) (around (x .left)) (c .before .before .before .before .before .before .before .before .before .before .before .before .before .before .before .before .before .before .before .before .before .before .before .skip-spaces .result .0) (x .count) (x .parent) (l .at .0) (l .n) s t₀ u (l .inv) (c .before .before .before .before .before .before .before .before .before .before .before .before .before .before .before .before .before .word-end .result .0) (c .before .before .before .before .before .before .before .before .before .before .before .before .before .before .before .before .skip-spaces2 .result .0) (word t (c .before .before .before .before .before .before .before .before .before .before .before .before .before .before .before .before)) (is-open t (c .before)))
 
 fill-group-cast-fill-group : (t : ℕ) → fill-group-lts.Need-cast-fill-group (given t) (fill-group-at t) fill-group.Post fill-group-Inv-loop fill-group-μ-loop
 fill-group-cast-fill-group t c =
@@ -147,7 +147,7 @@ fill-group-cast-fill-group t c =
     let s : List ℕ = x .text .now in
     let t₀ : Buffers = buffers (x .starts .now) (x .lengths .now) (x .parents .now) (x .groups .now) in
     let u : Buffers = buffers (l .starts) (l .lengths) (l .parents) (l .groups) in
-    omega (arith, roomy (bufferRoom t₀) (around (x .left)) (c .before .before .before .before .before .before .before .before .before .before .before .before .before .before .before .before .before .before .before .before .before .before .before .skip-spaces .result .0) (x .count) (x .parent) (l .position .0) (l .n) s t₀ u (l .inv) (c .before .before .before .before .before .before .before .before .before .before .before .before .before .before .before .before .before .word-end .result .0) (c .before .before .before .before .before .before .before .before .before .before .before .before .before .before .before .before .skip-spaces2 .result .0) (word t (c .before .before .before .before .before .before .before .before .before .before .before .before .before .before .before .before)))
+    omega (arith, roomy (bufferRoom t₀) (around (x .left)) (c .before .before .before .before .before .before .before .before .before .before .before .before .before .before .before .before .before .before .before .before .before .before .before .skip-spaces .result .0) (x .count) (x .parent) (l .at .0) (l .n) s t₀ u (l .inv) (c .before .before .before .before .before .before .before .before .before .before .before .before .before .before .before .before .before .word-end .result .0) (c .before .before .before .before .before .before .before .before .before .before .before .before .before .before .before .before .skip-spaces2 .result .0) (word t (c .before .before .before .before .before .before .before .before .before .before .before .before .before .before .before .before)))
 
 fill-group-add-fill-group : (t : ℕ) → fill-group-lts.Need-add-fill-group (given t) (fill-group-at t) fill-group.Post fill-group-Inv-loop fill-group-μ-loop
 fill-group-add-fill-group t c =
@@ -156,7 +156,7 @@ fill-group-add-fill-group t c =
     let s : List ℕ = x .text .now in
     let t₀ : Buffers = buffers (x .starts .now) (x .lengths .now) (x .parents .now) (x .groups .now) in
     let u : Buffers = buffers (l .starts) (l .lengths) (l .parents) (l .groups) in
-    omega (arith, roomy (bufferRoom t₀) (around (x .left)) (c .before .before .before .before .before .before .before .before .before .before .before .before .before .before .before .before .before .before .before .before .before .before .before .skip-spaces .result .0) (x .count) (x .parent) (l .position .0) (l .n) s t₀ u (l .inv) (c .before .before .before .before .before .before .before .before .before .before .before .before .before .before .before .before .before .word-end .result .0) (c .before .before .before .before .before .before .before .before .before .before .before .before .before .before .before .before .skip-spaces2 .result .0) (word t (c .before .before .before .before .before .before .before .before .before .before .before .before .before .before .before .before)))
+    omega (arith, roomy (bufferRoom t₀) (around (x .left)) (c .before .before .before .before .before .before .before .before .before .before .before .before .before .before .before .before .before .before .before .before .before .before .before .skip-spaces .result .0) (x .count) (x .parent) (l .at .0) (l .n) s t₀ u (l .inv) (c .before .before .before .before .before .before .before .before .before .before .before .before .before .before .before .before .before .word-end .result .0) (c .before .before .before .before .before .before .before .before .before .before .before .before .before .before .before .before .skip-spaces2 .result .0) (word t (c .before .before .before .before .before .before .before .before .before .before .before .before .before .before .before .before)))
 
 fill-group-fill-group-requires : (t : ℕ) → fill-group-lts.Need-fill-group-requires (given t) (fill-group-at t) fill-group.Post fill-group-Inv-loop fill-group-μ-loop
 fill-group-fill-group-requires t c κs =
@@ -170,15 +170,15 @@ fill-group-fill-group-requires t c κs =
     let kept : SameSize t₀ v = record { starts = p .kept .1 .1 .1 .1 .1 .0 ∙ l .inv .sizes .starts; lengths = p .kept .1 .1 .1 .1 .1 .1 .0 ∙ l .inv .sizes .lengths; parents = p .kept .1 .1 .1 .1 .1 .1 .1 .0 ∙ l .inv .sizes .parents; groups = p .kept .1 .1 .1 .1 .1 .1 .1 .1 .0 ∙ l .inv .sizes .groups } in
     let q = c .before .before .before .before .before .before .before .before .before .before .before .before .before .before .before .before .before .before .before .before .before .before .before .before .before .before .before .before .before .before .before .before .before .pre .1 in
     let e = is-open t (c .before .before .before .before .before) in
-    let less = low (bufferRoom t₀) (around (x .left)) (c .before .before .before .before .before .before .before .before .before .before .before .before .before .before .before .before .before .before .before .before .before .before .before .before .before .before .before .skip-spaces .result .0) (x .count) (x .parent) (l .position .0) (l .n) s t₀ u (l .inv) (c .before .before .before .before .before .before .before .before .before .before .before .before .before .before .before .before .before .before .before .before .before .word-end .result .0) (c .before .before .before .before .before .before .before .before .before .before .before .before .before .before .before .before .before .before .before .before .skip-spaces2 .result .0) (word t (c .before .before .before .before .before .before .before .before .before .before .before .before .before .before .before .before .before .before .before .before)) e in
+    let less = low (bufferRoom t₀) (around (x .left)) (c .before .before .before .before .before .before .before .before .before .before .before .before .before .before .before .before .before .before .before .before .before .before .before .before .before .before .before .skip-spaces .result .0) (x .count) (x .parent) (l .at .0) (l .n) s t₀ u (l .inv) (c .before .before .before .before .before .before .before .before .before .before .before .before .before .before .before .before .before .before .before .before .before .word-end .result .0) (c .before .before .before .before .before .before .before .before .before .before .before .before .before .before .before .before .before .before .before .before .skip-spaces2 .result .0) (word t (c .before .before .before .before .before .before .before .before .before .before .before .before .before .before .before .before .before .before .before .before)) e in
     let same-room = room-same t₀ v kept in (
       omega (arith, c .before .before .before .before .before .before .before .before .before .before .before .before .before .before .before .before .before .before .before .before .before .before .before .before .before .before .before .before .before .before .before .before .before .pre .0, less),
       record {
         small = q .small;
         begun = omega (arith, within s _ e);
         levels = omega (arith, q .levels);
-        fits = subst (λ (j : ℕ). l .n + 1 ≤ j) (sym same-room) (omega (arith, roomy (bufferRoom t₀) (around (x .left)) (c .before .before .before .before .before .before .before .before .before .before .before .before .before .before .before .before .before .before .before .before .before .before .before .before .before .before .before .skip-spaces .result .0) (x .count) (x .parent) (l .position .0) (l .n) s t₀ u (l .inv) (c .before .before .before .before .before .before .before .before .before .before .before .before .before .before .before .before .before .before .before .before .before .word-end .result .0) (c .before .before .before .before .before .before .before .before .before .before .before .before .before .before .before .before .before .before .before .before .skip-spaces2 .result .0) (word t (c .before .before .before .before .before .before .before .before .before .before .before .before .before .before .before .before .before .before .before .before))));
-        read = inner-read (bufferRoom t₀) (around (x .left)) (c .before .before .before .before .before .before .before .before .before .before .before .before .before .before .before .before .before .before .before .before .before .before .before .before .before .before .before .skip-spaces .result .0) (x .count) (x .parent) (l .position .0) (l .n) s t₀ u (l .inv) (c .before .before .before .before .before .before .before .before .before .before .before .before .before .before .before .before .before .before .before .before .before .word-end .result .0) (c .before .before .before .before .before .before .before .before .before .before .before .before .before .before .before .before .before .before .before .before .skip-spaces2 .result .0) (word t (c .before .before .before .before .before .before .before .before .before .before .before .before .before .before .before .before .before .before .before .before)) e (bufferRoom v) (around (x .left - 1)) same-room (omega (arith, less, q .levels));
+        fits = subst (λ (j : ℕ). l .n + 1 ≤ j) (sym same-room) (omega (arith, roomy (bufferRoom t₀) (around (x .left)) (c .before .before .before .before .before .before .before .before .before .before .before .before .before .before .before .before .before .before .before .before .before .before .before .before .before .before .before .skip-spaces .result .0) (x .count) (x .parent) (l .at .0) (l .n) s t₀ u (l .inv) (c .before .before .before .before .before .before .before .before .before .before .before .before .before .before .before .before .before .before .before .before .before .word-end .result .0) (c .before .before .before .before .before .before .before .before .before .before .before .before .before .before .before .before .before .before .before .before .skip-spaces2 .result .0) (word t (c .before .before .before .before .before .before .before .before .before .before .before .before .before .before .before .before .before .before .before .before))));
+        read = inner-read (bufferRoom t₀) (around (x .left)) (c .before .before .before .before .before .before .before .before .before .before .before .before .before .before .before .before .before .before .before .before .before .before .before .before .before .before .before .skip-spaces .result .0) (x .count) (x .parent) (l .at .0) (l .n) s t₀ u (l .inv) (c .before .before .before .before .before .before .before .before .before .before .before .before .before .before .before .before .before .before .before .before .before .word-end .result .0) (c .before .before .before .before .before .before .before .before .before .before .before .before .before .before .before .before .before .before .before .before .skip-spaces2 .result .0) (word t (c .before .before .before .before .before .before .before .before .before .before .before .before .before .before .before .before .before .before .before .before)) e (bufferRoom v) (around (x .left - 1)) same-room (omega (arith, less, q .levels));
       },
     )
 
@@ -202,8 +202,8 @@ fill-group-loop-again t c =
     let kept : SameSize t₀ v = record { starts = p .kept .1 .1 .1 .1 .1 .0 ∙ l .inv .sizes .starts; lengths = p .kept .1 .1 .1 .1 .1 .1 .0 ∙ l .inv .sizes .lengths; parents = p .kept .1 .1 .1 .1 .1 .1 .1 .0 ∙ l .inv .sizes .parents; groups = p .kept .1 .1 .1 .1 .1 .1 .1 .1 .0 ∙ l .inv .sizes .groups } in
     let r = c .before .before .before .before .before .before .before .before .before .fill-group in
     let e = is-open t (c .before .before .before .before .before .before .before .before .before .before .before .before .before .before .before) in
-    let less = low (bufferRoom t₀) (around (x .left)) (c .before .before .before .before .before .before .before .before .before .before .before .before .before .before .before .before .before .before .before .before .before .before .before .before .before .before .before .before .before .before .before .before .before .before .before .before .before .skip-spaces .result .0) (x .count) (x .parent) (l .position .0) (l .n) s t₀ u (l .inv) (c .before .before .before .before .before .before .before .before .before .before .before .before .before .before .before .before .before .before .before .before .before .before .before .before .before .before .before .before .before .before .before .word-end .result .0) (c .before .before .before .before .before .before .before .before .before .before .before .before .before .before .before .before .before .before .before .before .before .before .before .before .before .before .before .before .before .before .skip-spaces2 .result .0) (word t (c .before .before .before .before .before .before .before .before .before .before .before .before .before .before .before .before .before .before .before .before .before .before .before .before .before .before .before .before .before .before)) e in
-    past-group (bufferRoom t₀) (around (x .left)) (c .before .before .before .before .before .before .before .before .before .before .before .before .before .before .before .before .before .before .before .before .before .before .before .before .before .before .before .before .before .before .before .before .before .before .before .before .before .skip-spaces .result .0) (x .count) (x .parent) (l .position .0) (l .n) s t₀ u (l .inv) (c .before .before .before .before .before .before .before .before .before .before .before .before .before .before .before .before .before .before .before .before .before .before .before .before .before .before .before .before .before .before .before .word-end .result .0) (c .before .before .before .before .before .before .before .before .before .before .before .before .before .before .before .before .before .before .before .before .before .before .before .before .before .before .before .before .before .before .skip-spaces2 .result .0) (word t (c .before .before .before .before .before .before .before .before .before .before .before .before .before .before .before .before .before .before .before .before .before .before .before .before .before .before .before .before .before .before)) v (cond (c .before .before .before .before .before .before .before .before .before .before .before .before .before .before .before .before .before .before .before .before .before .before .before .before .before .before .before .before .before .opens-at .result) 1 0) (ap (λ (b : Bool). cond b 1 0) (c .before .before .before .before .before .before .before .before .before .before .before .before .before .before .before .before .before .before .before .before .before .before .before .before .before .before .before .before .before .opens-at .ensures)) (p .ensures) kept e (x .left - 1) (r .result .next .0) (r .result .count) (c .skip-spaces3 .result .0)
+    let less = low (bufferRoom t₀) (around (x .left)) (c .before .before .before .before .before .before .before .before .before .before .before .before .before .before .before .before .before .before .before .before .before .before .before .before .before .before .before .before .before .before .before .before .before .before .before .before .before .skip-spaces .result .0) (x .count) (x .parent) (l .at .0) (l .n) s t₀ u (l .inv) (c .before .before .before .before .before .before .before .before .before .before .before .before .before .before .before .before .before .before .before .before .before .before .before .before .before .before .before .before .before .before .before .word-end .result .0) (c .before .before .before .before .before .before .before .before .before .before .before .before .before .before .before .before .before .before .before .before .before .before .before .before .before .before .before .before .before .before .skip-spaces2 .result .0) (word t (c .before .before .before .before .before .before .before .before .before .before .before .before .before .before .before .before .before .before .before .before .before .before .before .before .before .before .before .before .before .before)) e in
+    past-group (bufferRoom t₀) (around (x .left)) (c .before .before .before .before .before .before .before .before .before .before .before .before .before .before .before .before .before .before .before .before .before .before .before .before .before .before .before .before .before .before .before .before .before .before .before .before .before .skip-spaces .result .0) (x .count) (x .parent) (l .at .0) (l .n) s t₀ u (l .inv) (c .before .before .before .before .before .before .before .before .before .before .before .before .before .before .before .before .before .before .before .before .before .before .before .before .before .before .before .before .before .before .before .word-end .result .0) (c .before .before .before .before .before .before .before .before .before .before .before .before .before .before .before .before .before .before .before .before .before .before .before .before .before .before .before .before .before .before .skip-spaces2 .result .0) (word t (c .before .before .before .before .before .before .before .before .before .before .before .before .before .before .before .before .before .before .before .before .before .before .before .before .before .before .before .before .before .before)) v (cond (c .before .before .before .before .before .before .before .before .before .before .before .before .before .before .before .before .before .before .before .before .before .before .before .before .before .before .before .before .before .opens-at .result) 1 0) (ap (λ (b : Bool). cond b 1 0) (c .before .before .before .before .before .before .before .before .before .before .before .before .before .before .before .before .before .before .before .before .before .before .before .before .before .before .before .before .before .opens-at .ensures)) (p .ensures) kept e (x .left - 1) (r .result .next .0) (r .result .count) (c .skip-spaces3 .result .0)
     (buffers (r .last .1 .1 .1 .1 .1 .0) (r .last .1 .1 .1 .1 .1 .1 .0) (r .last .1 .1 .1 .1 .1 .1 .1 .0) (r .last .1 .1 .1 .1 .1 .1 .1 .1 .0)) (room-same t₀ v kept) (omega (arith, c .before .before .before .before .before .before .before .before .before .before .before .before .before .before .before .before .before .before .before .before .before .before .before .before .before .before .before .before .before .before .before .before .before .before .before .before .before .before .before .before .before .before .before .pre .1 .levels)) (r .ensures)
     (record { starts = r .kept .1 .1 .1 .1 .1 .0 ∙ kept .starts; lengths = r .kept .1 .1 .1 .1 .1 .1 .0 ∙ kept .lengths; parents = r .kept .1 .1 .1 .1 .1 .1 .1 .0 ∙ kept .parents; groups = r .kept .1 .1 .1 .1 .1 .1 .1 .1 .0 ∙ kept .groups }) (c .skip-spaces3 .ensures .0) (c .skip-spaces3 .ensures .1)
 
@@ -223,7 +223,7 @@ fill-group-loop-again-2 t c =
     let p = c .before .before .before .before .before .before .before .before .before .put-node in
     let v : Buffers = buffers (p .last .1 .1 .1 .1 .1 .0) (p .last .1 .1 .1 .1 .1 .1 .0) (p .last .1 .1 .1 .1 .1 .1 .1 .0) (p .last .1 .1 .1 .1 .1 .1 .1 .1 .0) in
     let kept : SameSize t₀ v = record { starts = p .kept .1 .1 .1 .1 .1 .0 ∙ l .inv .sizes .starts; lengths = p .kept .1 .1 .1 .1 .1 .1 .0 ∙ l .inv .sizes .lengths; parents = p .kept .1 .1 .1 .1 .1 .1 .1 .0 ∙ l .inv .sizes .parents; groups = p .kept .1 .1 .1 .1 .1 .1 .1 .1 .0 ∙ l .inv .sizes .groups } in
-    past-word (bufferRoom t₀) (around (x .left)) (c .before .before .before .before .before .before .before .before .before .before .before .before .before .before .before .before .before .before .before .before .before .before .skip-spaces .result .0) (x .count) (x .parent) (l .position .0) (l .n) s t₀ u (l .inv) (c .before .before .before .before .before .before .before .before .before .before .before .before .before .before .before .before .word-end .result .0) (c .before .before .before .before .before .before .before .before .before .before .before .before .before .before .before .skip-spaces2 .result .0) (word t (c .before .before .before .before .before .before .before .before .before .before .before .before .before .before .before)) v (cond (c .before .before .before .before .before .before .before .before .before .before .before .before .before .before .opens-at .result) 1 0) (ap (λ (b : Bool). cond b 1 0) (c .before .before .before .before .before .before .before .before .before .before .before .before .before .before .opens-at .ensures)) (p .ensures) kept (c .before .before .before .before .before .before .before .before .before .before .before .before .before .before .before .skip-spaces2 .ensures .1) (is-shut t c)
+    past-word (bufferRoom t₀) (around (x .left)) (c .before .before .before .before .before .before .before .before .before .before .before .before .before .before .before .before .before .before .before .before .before .before .skip-spaces .result .0) (x .count) (x .parent) (l .at .0) (l .n) s t₀ u (l .inv) (c .before .before .before .before .before .before .before .before .before .before .before .before .before .before .before .before .word-end .result .0) (c .before .before .before .before .before .before .before .before .before .before .before .before .before .before .before .skip-spaces2 .result .0) (word t (c .before .before .before .before .before .before .before .before .before .before .before .before .before .before .before)) v (cond (c .before .before .before .before .before .before .before .before .before .before .before .before .before .before .opens-at .result) 1 0) (ap (λ (b : Bool). cond b 1 0) (c .before .before .before .before .before .before .before .before .before .before .before .before .before .before .opens-at .ensures)) (p .ensures) kept (c .before .before .before .before .before .before .before .before .before .before .before .before .before .before .before .skip-spaces2 .ensures .1) (is-shut t c)
 
 fill-group-same-length-5 : (t : ℕ) → fill-group-lts.Need-same-length-5 (given t) (fill-group-at t) fill-group.Post fill-group-Inv-loop fill-group-μ-loop
 fill-group-same-length-5 t c = search needs
@@ -244,7 +244,7 @@ fill-group-returns-2 t c =
     let s : List ℕ = x .text .now in
     let t₀ : Buffers = buffers (x .starts .now) (x .lengths .now) (x .parents .now) (x .groups .now) in
     let u : Buffers = buffers (l .starts) (l .lengths) (l .parents) (l .groups) in
-    let more = goes-on (bufferRoom t₀) (around (x .left)) (c .before .before .before .skip-spaces .result .0) (x .count) (x .parent) (l .position .0) (l .n) s t₀ u (l .inv) in
+    let more = goes-on (bufferRoom t₀) (around (x .left)) (c .before .before .before .skip-spaces .result .0) (x .count) (x .parent) (l .at .0) (l .n) s t₀ u (l .inv) in
     absurd (omega (arith, c .if1 .left))
 
 pub +fill-group-spec : {M : Type 1} → statement M

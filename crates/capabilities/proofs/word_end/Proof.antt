@@ -1,4 +1,4 @@
--- `capabilities::word_end` meets its contract. The loop's invariant: the letters from `start` on are those passed and those from `at` on.
+-- `capabilities::word_end` meets its contract. The loop's invariant: the letters from `start` on are those passed and those from `i` on.
 -- The measure is what is left of the string.
 use Prim.Native.Nat.{_+_, _-_, _≤_}
 use mathlib.Core.Path.{_≡_, sym, _∙_}
@@ -12,10 +12,10 @@ use Rattle.capabilities.proofs.word_end.Statement.{statement}
 use Rattle.capabilities.proofs.word_end.Tie as tie
 
 abbrev Inv-loop : tie.InvT-loop
-Inv-loop text at₀ at = (at ≤ length text) × (at₀ + letters (drop at₀ text) ≡ at + letters (drop at text))
+Inv-loop text i₀ i = (i ≤ length text) × (i₀ + letters (drop i₀ text) ≡ i + letters (drop i text))
 
 abbrev μ-loop : tie.MeasureT-loop
-μ-loop text at₀ at = length text - at
+μ-loop text i₀ i = length text - i
 
 loop-holds : tie.Need-loop-holds Inv-loop μ-loop
 loop-holds c = search needs
@@ -26,8 +26,8 @@ shared-slice-read-is-letter c = search needs
 is-letter-requires : tie.Need-is-letter-requires Inv-loop μ-loop
 is-letter-requires c κs = search needs
 
-add-at : tie.Need-add-at Inv-loop μ-loop
-add-at c = search needs
+add-i : tie.Need-add-i Inv-loop μ-loop
+add-i c = search needs
 
 loop-less : tie.Need-loop-less Inv-loop μ-loop
 loop-less c = search needs
@@ -36,16 +36,16 @@ loop-again : tie.Need-loop-again Inv-loop μ-loop
 loop-again c =
     let l = c .before .before .before .before .loop in
     let x = c .before .before .before .before .before .before .args in
-    omega (arith, letters-at (x .text .now) (l .at) true (c .before .before .before .loop-test .taken) (sym (c .if1 .taken) ∙ c .before .is-letter .ensures))
+    omega (arith, letters-at (x .text .now) (l .i) true (c .before .before .before .loop-test .taken) (sym (c .if1 .taken) ∙ c .before .is-letter .ensures))
 
 returns : tie.Need-returns Inv-loop μ-loop
 returns c =
     let l = c .before .before .before .before .loop in
     let x = c .before .before .before .before .before .before .args in
-    omega (arith, letters-at (x .text .now) (l .at) false (c .before .before .before .loop-test .taken) (sym (c .if1 .left) ∙ c .before .is-letter .ensures))
+    omega (arith, letters-at (x .text .now) (l .i) false (c .before .before .before .loop-test .taken) (sym (c .if1 .left) ∙ c .before .is-letter .ensures))
 
 returns-2 : tie.Need-returns-2 Inv-loop μ-loop
-returns-2 c = omega (arith, letters-end (c .before .before .before .args .text .now) (c .before .loop .at) (c .loop-test .left))
+returns-2 c = omega (arith, letters-end (c .before .before .before .args .text .now) (c .before .loop .i) (c .loop-test .left))
 
 pub word-end-spec : {M : Type 1} → statement M
 word-end-spec =
@@ -56,7 +56,7 @@ word-end-spec =
     loop-holds
     shared-slice-read-is-letter
     is-letter-requires
-    add-at
+    add-i
     loop-less
     loop-again
     returns

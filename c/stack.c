@@ -19,6 +19,7 @@ static uint8_t table[DDCCI_DISPLAY_TABLE_ROOM];
 static uint8_t out[DDCCI_OUTPUT_ROOM];
 static uint8_t profile[DDCCI_DISPLAY_LONGEST_PROFILE];
 static size_t profile_length;
+static volatile uint16_t declared;
 static const uint8_t *message;
 static size_t message_length;
 static ddcci_display display;
@@ -40,6 +41,14 @@ static void declare(void) {
 static void step(void) {
     display = ddcci_display_step(display, text, strlen((const char *)text), table, sizeof table, message,
                                  message_length, out, sizeof out).display;
+}
+
+static void declared_count(void) {
+    declared = ddcci_display_declared_count(display);
+}
+
+static void next_declared(void) {
+    declared = ddcci_display_next_declared(display, 0);
 }
 
 static void write_profile(void) {
@@ -89,6 +98,8 @@ int main(void) {
     write_step("step, text", read, sizeof read);
     write_step("step, table write", write, sizeof write);
     write_step("step, table read", read_table, sizeof read_table);
+    write_depth("declared count", declared_count);
+    write_depth("next declared", next_declared);
     write_depth("write profile", write_profile);
     write_depth("load profile", load_profile);
     return display.settings.saved[0x10] == 100 && table[0] == 0x41 ? 0 : 1;

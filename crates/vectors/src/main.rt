@@ -20,11 +20,13 @@ const INPUT_ROOM: usize = 16384;
 // The most pairs of digits on a line.
 const LINE_ROOM: usize = 96;
 
-// How far the input has been run: whether a group has begun, whether a line was malformed; the group's tally, all groups before it, and beside
-// them the outputs of 37 and 38 bytes and the damaged variants of all vectors.
+// How far the input has been run: whether a group has begun and whether a line was malformed; where the group's name starts and ends in the input;
+// the group's tally, all groups before it, and beside them the outputs of 37 and 38 bytes and the damaged variants of all vectors.
 struct Progress {
     begun: bool,
     stopped: bool,
+    name: usize,
+    name_end: usize,
     group: Tally,
     total: Tally,
     room: Tally,
@@ -37,22 +39,31 @@ fn say(file: i32, text: &[u8], n: u32) {
     io::print_decimal(file, n as u64);
 }
 
-// Writes the rest of a group's line. Returns the tally of all groups up to it.
-fn close(p: Progress) -> Tally {
+// Writes the line of a group, once it is done. Returns the tally of all groups up to it.
+fn tell(total: Tally, name: &[u8], group: Tally) -> Tally {
+    io::write_all(STDOUT_FILENO, name);
+    say(STDOUT_FILENO, b": ", group.0);
+    say(STDOUT_FILENO, b" of ", group.1);
+    io::write_all(STDOUT_FILENO, b"\n");
+    total.join(group)
+}
+
+// Ends the group that has begun, if any. Returns the tally of all groups up to it.
+fn close(p: Progress, s: &[u8]) -> Tally {
     if p.begun {
-        say(STDOUT_FILENO, b": ", p.group.0);
-        say(STDOUT_FILENO, b" of ", p.group.1);
-        io::write_all(STDOUT_FILENO, b"\n");
+        return tell(p.total, fields::part(s, p.name, p.name_end), p.group);
     }
     p.total.join(p.group)
 }
 
-// Ends the group before, and begins one with this tally.
-fn begin(mut p: Progress, name: &[u8], group: Tally) -> Progress {
-    let total = close(p);
-    io::write_all(STDOUT_FILENO, name);
+// Ends the group before, and begins one whose name stands here in the input.
+fn begin(mut p: Progress, s: &[u8], name: usize, name_end: usize) -> Progress {
+    let total = close(p, s);
+    let none = Tally(0, 0);
     p.begun = true;
-    p.group = group;
+    p.name = name;
+    p.name_end = name_end;
+    p.group = none;
     p.total = total;
     p
 }
@@ -147,31 +158,53 @@ fn run_vector(p: Progress, s: &[u8]) -> Progress {
     run_pairs(p, command, row, octets)
 }
 
-// A line: a group's name in brackets, a vector of a group, a comment, or nothing.
-fn run_line(p: Progress, s: &[u8]) -> Progress {
-    if s.len() == 0 {
-        return p;
-    }
-    let first = fields::octet(s, 0);
+// A line that is not empty: a group's name in brackets, a vector of a group, or a comment.
+// It stands from `at` to `end` in the input s.
+fn run_line(p: Progress, s: &[u8], at: usize, end: usize) -> Progress {
+    let text = fields::part(s, at, end);
+    let first = fields::octet(text, 0);
     if first == b'#' {
         return p;
     }
     if first == b'[' {
-        let end = bytes::scan::find(s, 1, s.len(), b']');
-        if end == s.len() - 1 {
-            return begin(p, &s[1..end], Tally(0, 0));
+        let last = bytes::scan::find(text, 0, text.len(), b']');
+        if std::num::wrapping_add_usize(last, 1) == text.len() {
+            let name = std::num::wrapping_add_usize(at, 1);
+            let name_end = std::num::wrapping_add_usize(at, last);
+            return begin(p, s, name, name_end);
         }
         return stop(p);
     }
     if p.begun {
-        return run_vector(p, s);
+        return run_vector(p, text);
     }
     stop(p)
 }
 
-fn complain(number: u32) {
-    say(STDERR_FILENO, b"vectors: malformed line ", number);
+// Returns how many vectors have failed so far, and damaged variants and outputs with them.
+fn failed(p: Progress) -> u32 {
+    let all = p.total.join(p.group).join(p.room).join(p.damaged);
+    std::num::wrapping_sub_u32(all.1, all.0)
+}
+
+// Writes a line's number and what is said of it, then its text.
+fn name_line(number: u32, what: &[u8], text: &[u8]) {
+    say(STDERR_FILENO, b"vectors: line ", number);
+    io::write_all(STDERR_FILENO, what);
+    io::write_all(STDERR_FILENO, text);
     io::write_all(STDERR_FILENO, b"\n");
+}
+
+// Names a line that is malformed, or whose vector does not hold: where as many had failed before it, it holds.
+fn report(before: u32, p: Progress, number: u32, text: &[u8]) {
+    if failed(p) == before {
+        return;
+    }
+    if p.stopped {
+        name_line(number, b" is malformed: ", text);
+        return;
+    }
+    name_line(number, b" does not hold: ", text);
 }
 
 fn run_lines(mut p: Progress, s: &[u8]) -> Progress {
@@ -179,11 +212,14 @@ fn run_lines(mut p: Progress, s: &[u8]) -> Progress {
     let mut number = 0u32;
     while at < s.len() {
         let end = bytes::scan::find(s, at, s.len(), b'\n');
-        let next = run_line(p, &s[at..end]);
-        p = next;
+        let before = failed(p);
         number = std::num::wrapping_add_u32(number, 1);
+        if at < end {
+            let next = run_line(p, s, at, end);
+            p = next;
+            report(before, p, number, &s[at..end]);
+        }
         if p.stopped {
-            complain(number);
             return p;
         }
         if end == s.len() {
@@ -200,6 +236,8 @@ fn run_input(s: &[u8]) -> Progress {
     let first = Progress {
         begun: false,
         stopped: false,
+        name: 0,
+        name_end: 0,
         group: none,
         total: none,
         room: none,
@@ -221,27 +259,26 @@ fn run_input(s: &[u8]) -> Progress {
 }
 
 // What was counted beside the vectors, as groups of their own.
-fn run_beside(mut p: Progress) -> Progress {
-    let room = p.room;
-    let damaged = p.damaged;
-    p = begin(p, b"room of an output", room);
-    begin(p, b"damaged variants", damaged)
+fn run_beside(total: Tally, p: Progress) -> Tally {
+    let with_room = tell(total, b"room of an output", p.room);
+    tell(with_room, b"damaged variants", p.damaged)
 }
 
 // Document 01's rules that are run over every value.
-fn run_rules(mut p: Progress) -> Progress {
-    p = begin(p, b"document 01, fields", values::all());
-    p = begin(p, b"document 01, table of requests", table::all(false));
-    begin(p, b"document 01, table of replies", table::all(true))
+fn run_rules(total: Tally) -> Tally {
+    let a = tell(total, b"document 01, fields", values::all());
+    let b = tell(a, b"document 01, table of requests", table::all(false));
+    tell(b, b"document 01, table of replies", table::all(true))
 }
 
 fn main() {
     let mut input = [0u8; INPUT_ROOM];
     let got = io::read_full(STDIN_FILENO, &mut input);
     let p = run_input(&input[..got]);
+    let total = close(p, &input[..got]);
     if p.stopped {
-        verdict(close(p));
+        verdict(total);
         return;
     }
-    verdict(close(run_rules(run_beside(p))));
+    verdict(run_rules(run_beside(total, p)));
 }

@@ -17,23 +17,26 @@ loop-holds c = search needs
 find-requires : tie.Need-find-requires Inv-loop μ-loop
 find-requires c κs = search needs
 
-sub-run-line : tie.Need-sub-run-line Inv-loop μ-loop
-sub-run-line c = search needs
-
-part-run-line-start : tie.Need-part-run-line-start Inv-loop μ-loop
-part-run-line-start c = search needs
-
-part-run-line-end : tie.Need-part-run-line-end Inv-loop μ-loop
-part-run-line-end c = search needs
-
-run-line-requires : tie.Need-run-line-requires Inv-loop μ-loop
-run-line-requires c κs = search needs
+failed-requires : tie.Need-failed-requires Inv-loop μ-loop
+failed-requires c κs = search needs
 
 wrapping-add-u32-requires : tie.Need-wrapping-add-u32-requires Inv-loop μ-loop
 wrapping-add-u32-requires c κs = search needs
 
-complain-requires : tie.Need-complain-requires Inv-loop μ-loop
-complain-requires c κs = search needs
+run-line-requires : tie.Need-run-line-requires Inv-loop μ-loop
+run-line-requires c κs = search needs
+
+sub-report : tie.Need-sub-report Inv-loop μ-loop
+sub-report c = search needs
+
+part-report-start : tie.Need-part-report-start Inv-loop μ-loop
+part-report-start c = search needs
+
+part-report-end : tie.Need-part-report-end Inv-loop μ-loop
+part-report-end c = search needs
+
+report-requires : tie.Need-report-requires Inv-loop μ-loop
+report-requires c κs = search needs
 
 returns : tie.Need-returns Inv-loop μ-loop
 returns c = search needs
@@ -61,12 +64,13 @@ run-lines-spec =
     μ-loop
     loop-holds
     find-requires
-    sub-run-line
-    part-run-line-start
-    part-run-line-end
-    run-line-requires
+    failed-requires
     wrapping-add-u32-requires
-    complain-requires
+    run-line-requires
+    sub-report
+    part-report-start
+    part-report-end
+    report-requires
     returns
     returns-2
     add-at

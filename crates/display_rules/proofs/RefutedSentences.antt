@@ -13,7 +13,7 @@ use Rattle.message_rules.specs.Body as body
 use Rattle.message_rules.specs.Frame.{frame}
 use Rattle.message_rules.specs.Message.{Request, getFeature, setFeature, timing, save, tableWrite, value, timingReply, requests, replies, encode, Valid, toDisplay, toHost}
 use Rattle.message_rules.proofs.RoundTrip.{requests-round}
-use Rattle.settings.specs.Settings.{startWith, startingSettings, withPresent, saveAll}
+use Rattle.settings.specs.Settings.{startingSettings, withPresent, saveAll}
 use Rattle.settings.specs.Entries.{Entry, entryOf, entryPresent, entrySaved, Sized}
 use Rattle.settings.specs.Operations.{Declarable, DeclaredAs, Declares}
 use Rattle.settings.specs.declared.Declaration.{Declaration}
@@ -285,7 +285,7 @@ abbrev crosses : StepRule
 crosses d lent table message out = step (withSettings d (crossed (d .settings))) lent table message out
 
 crossed-is : withSettings (start (timed 1 2) 2 1 .display) (crossed (start (timed 1 2) 2 1 .display .settings)) ≡ start (timed 2 1) 2 1 .display
-unfolding start startAnswer startWith startingSettings
+unfolding start startAnswer startingSettings
 crossed-is = refl
 
 -- the low byte of the horizontal frequency in a Timing reply

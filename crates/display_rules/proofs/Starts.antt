@@ -1,10 +1,10 @@
 -- The start and declaring follow the paper's sentences: the theorems of specs/Starts.antt.
-use mathlib.Core.Path.{_≡_, refl}
-use Prim.Native.Nat.{ℕ, _≤_, _<_, _/_, _%_}
+use mathlib.Core.Path.{_≡_, refl, _∙_}
+use Prim.Native.Nat.{ℕ, _≤_, _<_}
 use native.Mathlib.Omega.{arith}
 use borrow.Author.Tests.{eq-eqb, ne-eqb, le-leb, lt-leb, lt-ltb, le-ltb}
 use Rattle.settings.specs.Settings.{startWith}
-use Rattle.settings.specs.Operations.{noTiming, NoCode}
+use Rattle.settings.specs.Operations.{noTiming, NoCode, Starts}
 use Rattle.settings.specs.declared.Settings.{Settings}
 use Rattle.settings.specs.declared.Timing.{Timing}
 use Rattle.settings.proofs.Operations.{no-code, starts-as-written, declares-as-written}
@@ -14,26 +14,27 @@ use Rattle.display_rules.proofs.Sound.{start-accepted}
 
 -- ---- the numbers
 
-module _ (status n p : ℕ) where
-  reserved-18 : (status / 4 % 16 ≡ 0 → ⊥) → startAnswer status n p ≡ 18
+-- by the settings' answer k to the timing
+module _ (k n p : ℕ) where
+  timing-first : (k ≡ 0 → ⊥) → startAnswer k n p ≡ k
   unfolding startAnswer
-  reserved-18 h = rw (ne-eqb (status / 4 % 16) 0 h)
+  timing-first h = rw (ne-eqb k 0 h)
 
-  long-11 : status / 4 % 16 ≡ 0 → 4096 < n → startAnswer status n p ≡ 11
+  long-11 : k ≡ 0 → 4096 < n → startAnswer k n p ≡ 11
   unfolding startAnswer
-  long-11 e h = rw (eq-eqb (status / 4 % 16) 0 e, lt-leb n 4096 h)
+  long-11 e h = rw (eq-eqb k 0 e, lt-leb n 4096 h)
 
-  small-18 : status / 4 % 16 ≡ 0 → n ≤ 4096 → p ≡ 0 → startAnswer status n p ≡ 18
+  small-18 : k ≡ 0 → n ≤ 4096 → p ≡ 0 → startAnswer k n p ≡ 18
   unfolding startAnswer
-  small-18 e h z = rw (eq-eqb (status / 4 % 16) 0 e, le-leb n 4096 h, eq-eqb p 0 z)
+  small-18 e h z = rw (eq-eqb k 0 e, le-leb n 4096 h, eq-eqb p 0 z)
 
-  large-18 : status / 4 % 16 ≡ 0 → n ≤ 4096 → 32 < p → startAnswer status n p ≡ 18
+  large-18 : k ≡ 0 → n ≤ 4096 → 32 < p → startAnswer k n p ≡ 18
   unfolding startAnswer
-  large-18 e h l = rw (eq-eqb (status / 4 % 16) 0 e, le-leb n 4096 h, lt-ltb 32 p l, ne-eqb p 0 (λ z. omega arith))
+  large-18 e h l = rw (eq-eqb k 0 e, le-leb n 4096 h, lt-ltb 32 p l, ne-eqb p 0 (λ z. omega arith))
 
-  right-0 : status / 4 % 16 ≡ 0 → n ≤ 4096 → 1 ≤ p → p ≤ 32 → startAnswer status n p ≡ 0
+  right-0 : k ≡ 0 → n ≤ 4096 → 1 ≤ p → p ≤ 32 → startAnswer k n p ≡ 0
   unfolding startAnswer
-  right-0 e h l m = rw (eq-eqb (status / 4 % 16) 0 e, le-leb n 4096 h, le-ltb 32 p m, ne-eqb p 0 (λ z. omega arith))
+  right-0 e h l m = rw (eq-eqb k 0 e, le-leb n 4096 h, le-ltb 32 p m, ne-eqb p 0 (λ z. omega arith))
 
 -- ---- the display
 
@@ -48,17 +49,17 @@ fresh-is t s n p c = record {
 pub start-numbers : StartNumbers start
 unfolding start
 start-numbers t n p = record {
-  reserved = reserved-18 (t .status) n p;
-  long = long-11 (t .status) n p;
-  small = small-18 (t .status) n p;
-  large = large-18 (t .status) n p;
-  otherwise = right-0 (t .status) n p;
-  started = λ a. rw a (fresh-is t (startWith t .settings) n p (timed a));
-  refused = λ a. rw (ne-eqb (startAnswer (t .status) n p) 0 a) (fresh-is noTiming _ 0 1 (no-code noTiming));
+  reserved = λ h. timing-first (startWith t .answer) n p (λ z. omega (arith, w .reserved h)) ∙ w .reserved h;
+  long = λ e. long-11 (startWith t .answer) n p (w .otherwise e);
+  small = λ e. small-18 (startWith t .answer) n p (w .otherwise e);
+  large = λ e. large-18 (startWith t .answer) n p (w .otherwise e);
+  otherwise = λ e. right-0 (startWith t .answer) n p (w .otherwise e);
+  started = λ a. rw a (fresh-is t (startWith t .settings) n p (w .started (start-accepted (startWith t .answer) n p a .0)));
+  refused = λ a. rw (ne-eqb (startAnswer (startWith t .answer) n p) 0 a) (fresh-is noTiming _ 0 1 (no-code noTiming));
 }
   where
-    timed : startAnswer (t .status) n p ≡ 0 → NoCode t (startWith t .settings)
-    timed a = let w = starts-as-written t in w .started (w .otherwise (start-accepted (t .status) n p a .0))
+    w : Starts t (startWith t .answer) (startWith t .settings)
+    w = starts-as-written t
 
 -- ---- declaring
 

@@ -22,7 +22,7 @@ use Rattle.transfer_rules.specs.Exchange.{rules, World, Exchange, counte
 use Rattle.transfer_rules.specs.Exchange as over
 use Rattle.transfer_rules.specs.Demand3.{Setup, Supposed, enough, EndClaim, Demand3}
 use Rattle.transfer_rules.specs.Demand3 as claimed
-use Rattle.transfer_rules.proofs.Steps.{receive-closed, sent-is}
+use Rattle.transfer_rules.proofs.Steps.{receive-closed, sent-is, asked-is}
 use Rattle.transfer_rules.proofs.Kept.{received, after, Follows, StateKept, Kept, first-le, answered-done, answered-counted, answered-kept, refused-not-done, refused-counted, corrupted-kept, closed-kept}
 
 -- the calls of Transfer.antt
@@ -49,6 +49,7 @@ module _ (s : Setup) (h : Supposed s) where
       record {
         requests = sent-is (w .transfer) (e .output)
             ∙ ap₂ (λ (a : TextKind) (b : ℕ). cond (isOpen (w .transfer) && leb outputRoom (length (e .output))) (some (requestMessage a b)) none) (v .kindIs) (v .reachedIs);
+        asks = asked-is (w .transfer) (e .output);
         answers = λ o r. answered-done s h w e m n v o f r;
         counts = i;
         refuses = λ x z. refused-not-done s h w e m n v f x z;

@@ -366,6 +366,18 @@ rejects-ask-in-37 h =
     let i : _≡_ {A = ℕ} 0 1 = cc in
     omega arith
 
+-- one that looks at the output before the transfer's end: 1 where 16 is due
+abbrev ask-size-first : Transfer → List ℕ → RequestOutcome
+ask-size-first t output = cond (leb 38 (length output)) (request t output) (record { answer = 1; len = 0; output = output })
+
+rejects-ask-size-first : Demand3 (requesting ask-size-first) → ⊥
+rejects-ask-size-first h =
+    let c : Calls = requesting ask-size-first in
+    let short : Exchange = record { output = replicate 37 0; turn = ignores; came = [] } in
+    let z = says c 0 (short ∷ []) 0 refl h (closed {w = start c Capabilities buffer 0 cursor} {e = short} (record { bytes = bytes.none; lawful = tt }) refl ended) in
+    let e : _≡_ {A = ℕ} 1 16 = z .1 .0 .asks in
+    omega arith
+
 -- one that begins each request at a multiple of 32: the next one behind the bytes accepted
 abbrev ask-at-32 : Transfer → List ℕ → RequestOutcome
 ask-at-32 t output = request (withReached t ((t .reached .0 + 31) / 32 * 32)) output

@@ -66,6 +66,14 @@ sent-is t output = go (isOpen t) refl (leb outputRoom (length output)) refl
     go true e true f = rw (e, f) (ap some (take-append-seam (requestMessage (t .kind) (t .reached .0)) (drop (length (requestMessage (t .kind) (t .reached .0))) output)))
     go true e false f = rw (e, f)
 
+pub asked-is : (t : Transfer) (output : List ℕ) → request t output .answer ≡ cond (isOpen t) (cond (leb outputRoom (length output)) 0 1) 16
+asked-is t output = go (isOpen t) refl (leb outputRoom (length output)) refl
+  where
+    go : (b : Bool) → isOpen t ≡ b → (c : Bool) → leb outputRoom (length output) ≡ c → request t output .answer ≡ cond (isOpen t) (cond (leb outputRoom (length output)) 0 1) 16
+    go false e c f = rw e
+    go true e true f = rw (e, f)
+    go true e false f = rw (e, f)
+
 -- a request that was sent is for the offset reached
 pub sent-for : (k : TextKind) (t : Transfer) (output : List ℕ) (q : ℕ) → t .kind ≡ k → sentBy (request t output) ≡ some (requestMessage k q) → q ≡ t .reached .0
 sent-for k t output q ke h = go (isOpen t && leb outputRoom (length output)) (sent-is t output)

@@ -7,7 +7,7 @@ use mathlib.Core.Bool.{true, false, cond, _&&_}
 use lib.ListN.{length, take, drop}
 use lib.Dec.{leb}
 use Rattle.checksum.specs.Bytes.{Bytes}
-use Rattle.message_rules.specs.Answer.{done, transferClosed}
+use Rattle.message_rules.specs.Answer.{done, wrongSize, transferClosed}
 use Rattle.message_rules.specs.Limits.{outputRoom}
 use Rattle.message_rules.specs.declared.TextKind.{TextKind}
 use Rattle.transfer_rules.specs.declared.State.the-variants.{Running, Done}
@@ -63,6 +63,8 @@ module _ (c : Calls) where
   pub record ExchangeClaim (kind : TextKind) (w : World) (e : Exchange) : Type 0 where
     -- "A refused asking sends none; any other builds the request for that text, its offset the number of bytes accepted so far"; refused are a closed transfer and a short output
     pub requests : sent c w e ≡ cond (isOpen (w .transfer) && leb outputRoom (length (e .output))) (some (requestMessage kind (length (w .accepted)))) none
+    -- the answer of asking: "16 if closed", then 1 for an output under 38 bytes
+    pub asks : (c .request (w .transfer) (e .output)) .answer ≡ cond (isOpen (w .transfer)) (cond (leb outputRoom (length (e .output))) done wrongSize) transferClosed
     -- "that the answer is then 0 is part of the claim"
     pub answers : isOpen (w .transfer) ≡ true → Replied e → (received c w e) .answer ≡ done
     -- "if not answered 16 or 1 it counts as one exchange": an open transfer answers neither, so each of its exchanges counts

@@ -9,6 +9,7 @@ pub mod Unique
 pub mod Prefixes
 pub mod Refusals
 pub mod Exactly
+pub mod Words
 pub mod Theorems
 pub mod Demand2
 pub mod Refuted

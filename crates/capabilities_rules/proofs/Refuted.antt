@@ -117,3 +117,16 @@ no-lowering h =
     let a = h .rightly (0x28 ∷ 0x61 ∷ 0x29 ∷ []) single (buffers (1 ∷ []) (1 ∷ []) (65534 ∷ []) (0 ∷ [])) (Accepted 1) (refl, refl) .accepts (word 1 1 none) word-fits .holds .parents in
     let z : _≡_ {A = ℕ} 65534 65535 = ap (λ (l : List ℕ). getD l 0 0) a in
     omega arith
+
+-- ---- a reader that stores nodes as it goes, and leaves them where it refuses
+
+abbrev spills : Promise
+spills s t t′ r = (r ≡ outcome (bufferRoom t) s) × (t′ ≡ written 0 (nodesOf s) t)
+
+-- "(a" is cut short
+pub no-spilling : Demand2 spills → ⊥
+unfolding outcome judge kindOf letters opens nodes nodesOf
+no-spilling h =
+    let a = h .rightly (0x28 ∷ 0x61 ∷ []) single (buffers (1 ∷ []) (1 ∷ []) (65535 ∷ []) (0 ∷ [])) (refused 13 2) (refl, refl) .refuses 13 2 refl .1 in
+    let z : _≡_ {A = ℕ} 1 0 = ap (λ (t : Buffers). getD (t .starts) 0 0) a in
+    omega arith

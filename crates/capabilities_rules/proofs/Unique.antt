@@ -11,10 +11,7 @@ use borrow.Author.Tests.{le-leb}
 use Rattle.capabilities_rules.specs.Machine.{kindOf}
 use Rattle.capabilities_rules.specs.Nodes.{letters, opens}
 use Rattle.capabilities_rules.specs.Grammar.{Letters, last, more, Spaces, no-space, one-space, Apart, Items, word, group, ListAt, ends, spaced, worded, grouped, Text, text}
-use Rattle.capabilities_rules.proofs.Walk.{letters-all, opens-list, opens-spaces, apart-close, apart-spaces}
-
-front : (w g t u s : List ℕ) → (w ++ (g ++ 0x28 ∷ (t ++ 0x29 ∷ u))) ++ 0x29 ∷ s ≡ w ++ (g ++ 0x28 ∷ (t ++ 0x29 ∷ (u ++ 0x29 ∷ s)))
-front w g t u s = simp append-assoc
+use Rattle.capabilities_rules.proofs.Walk.{letters-all, opens-list, opens-spaces, apart-close, apart-spaces, behind}
 
 -- what a list's bytes, with the ")" after it, show at the front: the byte, or for a word whether it has a group
 shape : List ℕ → ℕ
@@ -44,7 +41,7 @@ shape-form s ends = refl
 shape-form s (spaced r) = refl
 shape-form s (worded {w = w} {s = t} lw a r) = ap shape (append-assoc w t (0x29 ∷ s)) ∙ shape-word (t ++ 0x29 ∷ s) lw (apart-close t s a) ∙ opens-list s r
 shape-form s (grouped {w = w} {g = g} {t = t} {s = u} lw sg q r) =
-    ap shape (front w g t u s) ∙ shape-word (g ++ 0x28 ∷ (t ++ 0x29 ∷ (u ++ 0x29 ∷ s))) lw (apart-spaces (t ++ 0x29 ∷ (u ++ 0x29 ∷ s)) sg) ∙ opens-spaces (t ++ 0x29 ∷ (u ++ 0x29 ∷ s)) sg
+    ap shape (sym (behind w g t u s)) ∙ shape-word (g ++ 0x28 ∷ (t ++ 0x29 ∷ (u ++ 0x29 ∷ s))) lw (apart-spaces (t ++ 0x29 ∷ (u ++ 0x29 ∷ s)) sg) ∙ opens-spaces (t ++ 0x29 ∷ (u ++ 0x29 ∷ s)) sg
 
 same-form : {at : ℕ} {xs ys : Items} {t u : List ℕ} (p : ListAt at xs t) (q : ListAt at ys u) (s r : List ℕ) → t ++ 0x29 ∷ s ≡ u ++ 0x29 ∷ r → form p ≡ form q
 same-form p q s r e = sym (shape-form s p) ∙ ap shape e ∙ shape-form r q
@@ -81,7 +78,7 @@ unique-list (worded {at = at} {w = w} {s = t} {xs = xs} lw a p) (worded {w = w�
 unique-list (grouped {at = at} {w = w} {g = g} {t = t} {s = u} {ys = ys} {xs = xs} lw sg q p) (grouped {w = w′} {g = g′} {t = t′} {s = u′} {ys = ys′} {xs = xs′} lw′ sg′ q′ p′) s r e =
     let x : List ℕ = t ++ 0x29 ∷ (u ++ 0x29 ∷ s) in
     let x′ : List ℕ = t′ ++ 0x29 ∷ (u′ ++ 0x29 ∷ r) in
-    let k = split-words (g ++ 0x28 ∷ x) (g′ ++ 0x28 ∷ x′) lw lw′ (apart-spaces x sg) (apart-spaces x′ sg′) (sym (front w g t u s) ∙ e ∙ front w′ g′ t′ u′ r) in
+    let k = split-words (g ++ 0x28 ∷ x) (g′ ++ 0x28 ∷ x′) lw lw′ (apart-spaces x sg) (apart-spaces x′ sg′) (behind w g t u s ∙ e ∙ sym (behind w′ g′ t′ u′ r)) in
     let h = split-spaces x x′ sg sg′ (k .1) in
     let n : length w ≡ length w′ = ap length (k .0) in
     let o : length g ≡ length g′ = ap length (h .0) in

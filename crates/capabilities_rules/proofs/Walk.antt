@@ -246,7 +246,7 @@ free-word e = let z : _≡_ {A = ℕ} 0 1 = cc in absurd (omega arith)
 latest-one : (n : ℕ) → latest (n + 1) ≡ n
 latest-one n = ap latest (add-one n)
 
-behind : (w g t u s : List ℕ) → w ++ (g ++ 0x28 ∷ (t ++ 0x29 ∷ (u ++ 0x29 ∷ s))) ≡ (w ++ (g ++ 0x28 ∷ (t ++ 0x29 ∷ u))) ++ 0x29 ∷ s
+pub behind : (w g t u s : List ℕ) → w ++ (g ++ 0x28 ∷ (t ++ 0x29 ∷ (u ++ 0x29 ∷ s))) ≡ (w ++ (g ++ 0x28 ∷ (t ++ 0x29 ∷ u))) ++ 0x29 ∷ s
 behind w g t u s = simp append-assoc
 
 pub walk : {at : ℕ} {xs : Items} {t : List ℕ} → ListAt at xs t → (m : Mode) → (m ≡ Word → Apart t) → (n p : ℕ) (ps : List ℕ) (d : ℕ) (s : List ℕ)

@@ -6,5 +6,6 @@ pub mod Outcome
 pub mod Nodes
 pub mod Buffers
 pub mod Prefixes
+pub mod Words
 pub mod Theorems
 pub mod Demand2

@@ -1,13 +1,15 @@
 -- What the definitions amount to: each line is a claim of document 01, "Capability text". The proof is in proofs/Theorems.antt.
 use Prim.Native.Nat.{ℕ}
 use mathlib.Core.Path.{_≡_}
+use mathlib.Core.Bool.{false}
 use mathlib.Core.List.{List, _++_}
 use mathlib.Core.Option.{some}
 use Rattle.capabilities_rules.specs.Grammar.{Items, Text, Fits, size, nodesFrom}
 use Rattle.capabilities_rules.specs.Machine.{Phase, before, run, runCapped}
 use Rattle.capabilities_rules.specs.Outcome.{refused, outcome}
 use Rattle.capabilities_rules.specs.Nodes.{nodesOf}
-use Rattle.capabilities_rules.specs.Prefixes.{Viable, ViableCapped, Why}
+use Rattle.capabilities_rules.specs.Words.{LongestRun, EachWord}
+use Rattle.capabilities_rules.specs.Prefixes.{wordsIn, Viable, ViableCapped, Why}
 use Rattle.capabilities_rules.specs.declared.Reading.the-variants.{Accepted}
 
 pub record Theorems : Type 0 where
@@ -19,6 +21,9 @@ pub record Theorems : Type 0 where
   pub unique : (s : List ℕ) (xs ys : Items) → Text xs s → Text ys s → xs ≡ ys
   -- .. and its nodes are those that the machine makes
   pub noded : (s : List ℕ) (xs : Items) → Text xs s → nodesOf s ≡ nodesFrom 65535 0 xs
+  -- "A word is a longest run": each word is one, and there are as many words as places where a run begins, so that each run is a word
+  pub longest : (s : List ℕ) (xs : Items) → Text xs s → EachWord (LongestRun s) xs
+  pub runs : (s : List ℕ) (xs : Items) → Text xs s → wordsIn false s ≡ size xs
   -- a refusal has its number and its position by the rule, and nothing is refused before it ..
   pub refusals : (room k p : ℕ) (s : List ℕ) → outcome room s ≡ refused k p → Why room s k p
   -- .. and wherever the rule says so, it is given

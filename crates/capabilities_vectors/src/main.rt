@@ -19,6 +19,7 @@ struct Tally {
     right: u64,
 }
 
+// Returns a value as 32 bits.
 fn wide(x: u16) -> u32 {
     x as u32
 }
@@ -27,13 +28,13 @@ fn wide_byte(x: u8) -> u32 {
     x as u32
 }
 
-// Three times the digest and the value, so that each value counts, and its place.
+// Returns three times the digest and the value, so that each value counts, and its place.
 fn mix(digest: u32, value: u32) -> u32 {
     let twice = std::num::wrapping_add_u32(digest, digest);
     std::num::wrapping_add_u32(std::num::wrapping_add_u32(twice, digest), value)
 }
 
-// The digest of a node behind those before it.
+// Returns the digest with a node behind those before it.
 fn mix_node(digest: u32, start: u16, length: u16, parent: u16, group: u8) -> u32 {
     mix(
         mix(mix(mix(digest, wide(start)), wide(length)), wide(parent)),
@@ -41,6 +42,7 @@ fn mix_node(digest: u32, start: u16, length: u16, parent: u16, group: u8) -> u32
     )
 }
 
+// Returns the digest of the first `count` nodes.
 fn digest(
     starts: [u16; ROOM],
     lengths: [u16; ROOM],
@@ -57,7 +59,7 @@ fn digest(
     all
 }
 
-// The first n entries, or all where there are fewer.
+// Returns the first n entries, or all where there are fewer.
 fn front(buffer: &mut [u8], n: usize) -> &mut [u8] {
     if n < buffer.len() {
         &mut buffer[0..n]
@@ -66,6 +68,7 @@ fn front(buffer: &mut [u8], n: usize) -> &mut [u8] {
     }
 }
 
+// Returns whether so many nodes with this digest are wanted.
 fn wants_nodes(wanted: Wanted, count: usize, all: u32) -> bool {
     match wanted {
         Wanted::Nodes(n, d) => n == count && d == all,
@@ -73,6 +76,7 @@ fn wants_nodes(wanted: Wanted, count: usize, all: u32) -> bool {
     }
 }
 
+// Returns whether this refusal is wanted.
 fn wants_refusal(wanted: Wanted, number: u8, place: usize) -> bool {
     match wanted {
         Wanted::Nodes(n, d) => false,
@@ -80,6 +84,7 @@ fn wants_refusal(wanted: Wanted, number: u8, place: usize) -> bool {
     }
 }
 
+// Returns how many nodes a reading has.
 fn count_of(reading: Reading) -> usize {
     match reading {
         Reading::Accepted(count) => count,
@@ -87,7 +92,7 @@ fn count_of(reading: Reading) -> usize {
     }
 }
 
-// Whether a reading, with the digest of its nodes, is the one wanted.
+// Returns whether a reading, with the digest of its nodes, is the one wanted.
 fn judged(reading: Reading, all: u32, wanted: Wanted) -> bool {
     match reading {
         Reading::Accepted(count) => wants_nodes(wanted, count, all),
@@ -95,7 +100,7 @@ fn judged(reading: Reading, all: u32, wanted: Wanted) -> bool {
     }
 }
 
-// Whether a string, with room for `room` nodes, is answered as wanted.
+// Returns whether a string, with room for `room` nodes, is answered as wanted.
 fn answers(text: &[u8], room: usize, wanted: Wanted) -> bool {
     let mut starts = [0u16; ROOM];
     let mut lengths = [0u16; ROOM];
@@ -112,11 +117,12 @@ fn answers(text: &[u8], room: usize, wanted: Wanted) -> bool {
     judged(reading, all, wanted)
 }
 
+// Returns the tally before the first string.
 fn none() -> Tally {
     Tally { tried: 0, right: 0 }
 }
 
-// The tally with one string more.
+// Returns the tally with one string more.
 fn tried(t: Tally, text: &[u8], room: usize, wanted: Wanted) -> Tally {
     let all = std::num::wrapping_add_u64(t.tried, 1);
     if answers(text, room, wanted) {
@@ -131,21 +137,22 @@ fn tried(t: Tally, text: &[u8], room: usize, wanted: Wanted) -> Tally {
     }
 }
 
-// A string that is accepted, with so many nodes and this digest.
+// Tries a string that is to be accepted, with so many nodes and this digest.
 fn nodes(t: Tally, text: &[u8], count: usize, digest: u32) -> Tally {
     tried(t, text, ROOM, Wanted::Nodes(count, digest))
 }
 
-// A string that is refused, with room for `room` nodes.
+// Tries a string that is to be refused, with room for `room` nodes.
 fn refused(t: Tally, text: &[u8], room: usize, number: u8, place: usize) -> Tally {
     tried(t, text, room, Wanted::Refusal(number, place))
 }
 
-// A string whose grammar is wrong at this place.
+// Tries a string whose grammar is wrong at this place.
 fn wrong(t: Tally, text: &[u8], place: usize) -> Tally {
     refused(t, text, ROOM, 13, place)
 }
 
+// Writes how many strings of a group were answered right.
 fn report(name: &[u8], t: Tally) {
     io::write_all(STDOUT_FILENO, name);
     io::write_all(STDOUT_FILENO, b": ");
@@ -155,7 +162,7 @@ fn report(name: &[u8], t: Tally) {
     io::write_all(STDOUT_FILENO, b" right\n");
 }
 
-// Document 01's examples, those marked [P] too.
+// Runs document 01's examples, those marked [P] too.
 fn examples() {
     let mut t = none();
     t = nodes(t, b"(vcp(10 14(05 08)))", 5, 270490155);
@@ -200,7 +207,7 @@ fn put(out: &mut [u8], at: usize, b: u8) {
     }
 }
 
-// The one byte where the places are both even or both odd, else the other.
+// Returns the one byte where the places are both even or both odd, else the other.
 fn in_turn(from: usize, at: usize, first: u8, second: u8) -> u8 {
     if at % 2 == from % 2 { first } else { second }
 }
@@ -212,13 +219,13 @@ fn fill(out: &mut [u8], from: usize, to: usize, first: u8, second: u8) {
     }
 }
 
-// Groups within each other, a word before each, that open up to the place `middle` and close up to `end`: (a(a(a)))
+// Writes groups within each other, a word before each, that open up to the place `middle` and close up to `end`: (a(a(a)))
 fn nested(text: &mut [u8], middle: usize, end: usize) {
     fill(text, 0, middle, b'(', b'a');
     fill(text, middle, end, b')', b')');
 }
 
-// One group whose list alternates two bytes, with its ")" at the place `last`.
+// Writes one group whose list alternates two bytes, with its ")" at the place `last`.
 fn listed(text: &mut [u8], last: usize, first: u8, second: u8) {
     put(text, 0, b'(');
     fill(text, 1, last, first, second);
@@ -249,7 +256,7 @@ fn length() {
     report(b"4096 and 4097 bytes", t);
 }
 
-// Less room is less.
+// Tries strings with little room.
 fn little_room(mut t: Tally) -> Tally {
     t = tried(t, b"()", 0, Wanted::Nodes(0, 0));
     t = tried(t, b"(  )", 0, Wanted::Nodes(0, 0));

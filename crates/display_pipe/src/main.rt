@@ -4,6 +4,7 @@ use display_rules::limits::TABLE_ROOM;
 use libc::STDERR_FILENO;
 use libc::STDIN_FILENO;
 use libc::STDOUT_FILENO;
+use message_rules::Position;
 use message_rules::answer::DONE;
 use message_rules::limits::OUTPUT_ROOM;
 use settings::Declaration;
@@ -15,6 +16,7 @@ const HEAD: usize = 3;
 // The bytes of a start record in front of the capabilities string.
 const START_FIELDS: usize = 7;
 
+// The bytes of a declare record's body.
 const DECLARE_FIELDS: usize = 9;
 
 // The longest profile: a record of 7 bytes for each code but F4.
@@ -57,14 +59,14 @@ struct Obeyed {
     go: bool,
 }
 
-// A record's kind and the length of its body, or what is wrong.
+// A record's kind, the length of its body, and what is wrong with it.
 struct Head {
     kind: u8,
     len: usize,
     fault: u8,
 }
 
-// The byte at an index, or 0 past the end.
+// Returns the byte at an index, or 0 past the end.
 fn octet(s: &[u8], at: usize) -> u8 {
     if at < s.len() {
         return s[at];
@@ -72,30 +74,33 @@ fn octet(s: &[u8], at: usize) -> u8 {
     0
 }
 
+// Returns a 16-bit number as a wider one.
 fn wide(x: u16) -> usize {
     x as usize
 }
 
-// A 16-bit number of a record, the low byte first.
+// Returns a 16-bit number of a record, the low byte first.
 fn pair(low: u8, high: u8) -> u16 {
     low as u16 + high as u16 * 256
 }
 
-// The number at an index that is not the last.
+// Returns the 16-bit number at an index that is not the last.
 fn word(s: &[u8], at: usize) -> u16 {
     pair(octet(s, at), octet(s, at % 65536 + 1))
 }
 
-// The first n bytes of s, or all of it where it is shorter.
+// Returns the first n bytes of s, or all of it where it is shorter.
 fn front(s: &[u8], n: usize) -> &[u8] {
     if n < s.len() { &s[0..n] } else { s }
 }
 
+// Returns the same part of bytes that are to be changed.
 fn front_mut(s: &mut [u8], n: usize) -> &mut [u8] {
     if n < s.len() { &mut s[0..n] } else { s }
 }
 
-// The record that goes back: the answer, the reply's length and the reply.
+// Writes the record that goes back: the answer, the reply's length and the reply.
+// Returns whether it was taken.
 fn write_answer(answer: u8, reply: &[u8]) -> bool {
     let length = reply.len();
     let head = [answer, (length % 256) as u8, (length / 256 % 256) as u8];
@@ -105,29 +110,42 @@ fn write_answer(answer: u8, reply: &[u8]) -> bool {
     false
 }
 
-// One line says what is wrong with a record.
-fn complain(fault: u8) {
+// Writes for people what is wrong with a record, to the end of the line.
+fn write_fault(fault: u8) {
     match fault {
-        NONE => {}
-        ENDED => {}
-        CUT => line(b"display_pipe: the input ends in the middle of a record\n"),
-        SHORT_START => line(b"display_pipe: a start record needs 7 bytes or more\n"),
-        WRONG_DECLARE => line(b"display_pipe: a declare record has 9 bytes\n"),
-        WRONG_FLAG => line(b"display_pipe: readable, writable and continuous are 0 or 1\n"),
-        PROFILE_BODY => line(b"display_pipe: a record that asks for the profile has no body\n"),
-        _ => line(
-            b"display_pipe: the kind of a record is 1 (start), 2 (declare), 3 (message), 4 (write the profile) or 5 (load a profile)\n",
+        CUT => say(b": the input ends in the middle of a record\n"),
+        SHORT_START => say(b": a start record needs 7 bytes or more\n"),
+        WRONG_DECLARE => say(b": a declare record has 9 bytes\n"),
+        WRONG_FLAG => say(b": readable, writable and continuous are 0 or 1\n"),
+        PROFILE_BODY => say(b": a record that asks for the profile has no body\n"),
+        _ => say(
+            b": the kind of a record is 1 (start), 2 (declare), 3 (message), 4 (write the profile) or 5 (load a profile)\n",
         ),
     }
 }
 
-fn line(s: &[u8]) {
+// Writes one line for people: which record is malformed, by its number from 1 on and its kind, and what is wrong with it.
+// `left` has been counted down once for each record. The end of the input in front of a record is no fault.
+fn complain(left: u64, kind: u8, fault: u8) {
+    if fault == ENDED {
+        return;
+    }
+    say(b"display_pipe: record ");
+    io::print_decimal(STDERR_FILENO, u64::MAX - left);
+    say(b" of kind ");
+    io::print_decimal(STDERR_FILENO, kind as u64);
+    write_fault(fault);
+}
+
+// Writes a text to standard error.
+fn say(s: &[u8]) {
     io::write_all(STDERR_FILENO, s);
 }
 
 // ---- reading
 
-// Reads so many bytes into the front of the buffer. What is wrong with them.
+// Reads so many bytes into the front of the buffer.
+// Returns what is wrong with them.
 fn read(n: usize, buffer: &mut [u8]) -> u8 {
     if io::read_full(STDIN_FILENO, front_mut(buffer, n)) < n {
         return CUT;
@@ -135,7 +153,7 @@ fn read(n: usize, buffer: &mut [u8]) -> u8 {
     NONE
 }
 
-// The length of the capabilities string in a start record of n bytes.
+// Returns the length of the capabilities string in a start record of n bytes.
 fn text_length(n: usize) -> usize {
     if n < START_FIELDS {
         return 0;
@@ -143,6 +161,7 @@ fn text_length(n: usize) -> usize {
     n - START_FIELDS
 }
 
+// Reads the body of a start record of n bytes.
 // The capabilities string stays in the buffer `text` for the steps that follow.
 fn read_start(n: usize, text: &mut [u8], body: &mut [u8]) -> u8 {
     if n < START_FIELDS {
@@ -154,7 +173,7 @@ fn read_start(n: usize, text: &mut [u8], body: &mut [u8]) -> u8 {
     CUT
 }
 
-// Whether three bytes are each 0 (no) or 1 (yes).
+// Returns whether three bytes are each 0 (no) or 1 (yes), as what is wrong with them.
 fn flags(a: u8, b: u8, c: u8) -> u8 {
     if a < 2 {
         if b < 2 {
@@ -166,6 +185,7 @@ fn flags(a: u8, b: u8, c: u8) -> u8 {
     WRONG_FLAG
 }
 
+// Reads the body of a declare record.
 fn read_declare(n: usize, body: &mut [u8]) -> u8 {
     if n != DECLARE_FIELDS {
         return WRONG_DECLARE;
@@ -176,7 +196,8 @@ fn read_declare(n: usize, body: &mut [u8]) -> u8 {
     CUT
 }
 
-// The body of a record, into the buffer `body`. What is wrong with the record.
+// Reads the body of a record into the buffer `body`.
+// Returns what is wrong with the record.
 fn read_body(kind: u8, n: usize, text: &mut [u8], body: &mut [u8]) -> u8 {
     match kind {
         START => read_start(n, text, body),
@@ -188,6 +209,7 @@ fn read_body(kind: u8, n: usize, text: &mut [u8], body: &mut [u8]) -> u8 {
     }
 }
 
+// Returns what is wrong with a head of which so many bytes came.
 // The end of the input in front of a record is the end of the program.
 fn head_fault(got: usize) -> u8 {
     match got {
@@ -197,6 +219,7 @@ fn head_fault(got: usize) -> u8 {
     }
 }
 
+// Reads a record's kind and the length of its body.
 fn read_head() -> Head {
     let mut space = [0u8; HEAD];
     let h: &mut [u8] = &mut space;
@@ -208,6 +231,7 @@ fn read_head() -> Head {
     }
 }
 
+// Reads a record whole.
 fn read_record(text: &mut [u8], body: &mut [u8]) -> Head {
     let mut h = read_head();
     if h.fault == NONE {
@@ -220,6 +244,7 @@ fn read_record(text: &mut [u8], body: &mut [u8]) -> Head {
 
 // ---- obeying
 
+// Starts the display anew.
 fn start(body: &[u8], text: &[u8]) -> Obeyed {
     let timing = Timing {
         status: octet(body, 0),
@@ -234,6 +259,7 @@ fn start(body: &[u8], text: &[u8]) -> Obeyed {
     }
 }
 
+// Returns the declaration of a declare record.
 fn declaration(body: &[u8]) -> Declaration {
     Declaration {
         code: octet(body, 0),
@@ -246,6 +272,7 @@ fn declaration(body: &[u8]) -> Declaration {
     }
 }
 
+// Declares a code.
 fn declare(d: Display, declaration: Declaration) -> Obeyed {
     let declared = display::declare(d, declaration);
     let display = declared.display;
@@ -255,7 +282,7 @@ fn declare(d: Display, declaration: Declaration) -> Obeyed {
     }
 }
 
-// The settings profile goes back as the reply.
+// Sends the settings profile back as the reply.
 fn write_profile(d: Display) -> Obeyed {
     let mut out = [0u8; LONGEST_PROFILE];
     let written = profile::write(d.settings, &mut out);
@@ -265,26 +292,28 @@ fn write_profile(d: Display) -> Obeyed {
     }
 }
 
-// A refused profile gets its place back, in two bytes.
-fn write_loaded(answer: u8, position: usize) -> bool {
+// Answers a profile that was loaded. A refused one gets its place back, in two bytes.
+fn write_loaded(answer: u8, position: Position) -> bool {
     if answer == DONE {
         return write_answer(answer, b"");
     }
-    let place = [(position % 256) as u8, (position / 256 % 256) as u8];
+    let at = position.0;
+    let place = [(at % 256) as u8, (at / 256 % 256) as u8];
     write_answer(answer, &place)
 }
 
+// Loads a settings profile.
 fn load_profile(mut d: Display, bytes: &[u8]) -> Obeyed {
     let loaded = profile::load(d.settings, bytes);
     let settings = loaded.settings;
     d.settings = settings;
     Obeyed {
         display: d,
-        go: write_loaded(loaded.answer, loaded.position.0),
+        go: write_loaded(loaded.answer, loaded.position),
     }
 }
 
-// A record that is no message.
+// Obeys a record that is no message.
 fn obey(d: Display, kind: u8, n: usize, text: &[u8], body: &[u8]) -> Obeyed {
     match kind {
         START => start(body, front(text, text_length(n))),
@@ -294,7 +323,8 @@ fn obey(d: Display, kind: u8, n: usize, text: &[u8], body: &[u8]) -> Obeyed {
     }
 }
 
-// Answers records until the input ends, one is malformed or nobody takes the answers. A message is obeyed here, where the display is kept: handed through other functions it would be copied for each.
+// Answers records until the input ends, one is malformed or nobody takes the answers.
+// A message is obeyed here, where the display is: handed through other functions it would be copied for each.
 // Nothing says that the input ends, so the records are counted down from a number that no run uses up.
 fn main() {
     let mut d = display::empty();
@@ -307,7 +337,7 @@ fn main() {
         left -= 1;
         let h = read_record(&mut text, &mut body);
         if h.fault != NONE {
-            complain(h.fault);
+            complain(left, h.kind, h.fault);
             return;
         }
         if h.kind == MESSAGE {

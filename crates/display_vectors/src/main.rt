@@ -1,261 +1,250 @@
-// Runs of a display that document 01 leaves to a program: a table of 1,024 and of 1,025 bytes, and a request that is sent twice. One line a group.
-use display_rules::Display;
-use display_rules::limits::TABLE_ROOM;
+// Runs the rows of standard input on displays, and writes one line a group. The form of the input stands at its head, in the file stdin.
+mod bench;
+mod line;
+
+use bench::Bench;
+use bench::FILLING;
+use bench::OUT_ROOM;
+use bench::TABLE_BUFFER;
+use bench::behind;
+use bench::front;
+use bench::front_mut;
+use bench::octet;
+use libc::STDIN_FILENO;
 use libc::STDOUT_FILENO;
-use message_builder::Built;
-use message_builder::request;
-use message_rules::TABLE_CODE;
-use message_rules::TO_DISPLAY;
-use message_rules::TextOffset;
-use message_rules::answer;
-use message_rules::limits::MOST_WRITTEN;
-use message_rules::limits::OUTPUT_ROOM;
+use settings::Declaration;
 use settings::Timing;
 
-// The bytes of a fragment message in front of its data.
-const FRAGMENT_HEAD: usize = 5;
+// One byte more than the longest input.
+const INPUT_ROOM: usize = 32768;
 
-// The size of the fragments that the displays here send.
-const SIZE: usize = 32;
+// The most pairs of digits on a line.
+const LINE_ROOM: usize = 96;
 
-// The writes that fill a table, and the reads that empty it: the last one is the empty fragment.
-const WRITES: u16 = 34;
+// The bytes of a start and of a declaration.
+const FIELDS: usize = 9;
 
-const READS: usize = 33;
+// The bytes of a buffers row in front of its message: the lengths of the text, of the table's buffer and of the output.
+const LENGTHS: usize = 5;
 
-// A display with the memory of its table, and what its last step gave: the reply, its length and the answer.
-struct Bench {
-    display: Display,
-    table: [u8; TABLE_ROOM],
-    reply: [u8; OUTPUT_ROOM],
-    len: usize,
-    answer: u8,
+// Returns the 16-bit number at an index, the high byte first, as in a message.
+fn word(s: &[u8], at: usize) -> u16 {
+    joined(octet(s, at), octet(s, at % 65536 + 1))
 }
 
-fn front(s: &[u8], n: usize) -> &[u8] {
-    if n < s.len() { &s[0..n] } else { s }
+fn joined(high: u8, low: u8) -> u16 {
+    high as u16 * 256 + low as u16
 }
 
-fn behind(s: &[u8], n: usize) -> &[u8] {
-    if n < s.len() { &s[n..] } else { &s[0..0] }
+fn wide(n: u16) -> usize {
+    n as usize
 }
 
-fn length_of(built: Built) -> usize {
-    match built {
-        Built::Done(n) => n,
-        Built::Refused(answer) => 0,
-    }
+fn byte_wide(n: u8) -> usize {
+    n as usize
 }
 
-fn started() -> Bench {
-    let timing = Timing {
-        status: 0,
-        horizontal: 0,
-        vertical: 0,
-    };
-    let s = display::start(timing, b"", SIZE as u16);
-    let display = s.display;
-    Bench {
-        display: display,
-        table: [0u8; TABLE_ROOM],
-        reply: [0u8; OUTPUT_ROOM],
-        len: 0,
-        answer: s.answer,
-    }
+// Returns the answer that is due, which is written in decimal.
+fn answer_due(due: &[u8]) -> u8 {
+    let digits = octet(due, 0);
+    digits / 16 * 10 + digits % 16
 }
 
-// One step, with a message that was built in front of these bytes.
-fn step(mut b: Bench, m: [u8; OUTPUT_ROOM], built: Built) -> Bench {
-    let before = b.display;
-    let mut table = b.table;
-    let mut out = [0u8; OUTPUT_ROOM];
-    let s = display::step(
-        before,
-        b"",
-        &mut table,
-        front(&m, length_of(built)),
-        &mut out,
-    );
-    let after = s.display;
-    b.display = after;
-    b.table = table;
-    b.reply = out;
-    b.len = s.len;
-    b.answer = s.answer;
-    b
-}
-
-// A Table write.
-fn write(b: Bench, at: u16, data: &[u8]) -> Bench {
-    let mut m = [0u8; OUTPUT_ROOM];
-    let built = request::build_table_write(TO_DISPLAY, TABLE_CODE, TextOffset(at), data, &mut m);
-    step(b, m, built)
-}
-
-// A Table read.
-fn read(b: Bench, at: u16) -> Bench {
-    let mut m = [0u8; OUTPUT_ROOM];
-    let built = request::build_table_read(TO_DISPLAY, TABLE_CODE, TextOffset(at), &mut m);
-    step(b, m, built)
-}
-
-// Write k of the table of 1,024 bytes, in writes of 31: its bytes are k. The last write has one byte.
-fn write_part(b: Bench, k: u16) -> Bench {
-    let part = k % WRITES;
-    let data = [part as u8; MOST_WRITTEN];
-    let n = if part == WRITES - 1 { 1 } else { MOST_WRITTEN };
-    write(b, part * MOST_WRITTEN as u16, front(&data, n))
-}
-
-// A display with that table. A write that is refused is the last one, and its answer stays.
-fn filled() -> Bench {
-    let mut b = started();
-    let mut k: u16 = 0;
-    while k < WRITES {
-        let next = write_part(b, k);
-        b = next;
-        if b.answer != answer::DONE {
-            return b;
-        }
-        k += 1;
-    }
-    b
-}
-
-// What those writes should leave.
-fn expected() -> [u8; TABLE_ROOM] {
-    let mut bytes = [0u8; TABLE_ROOM];
-    let mut i: usize = 0;
-    while i < TABLE_ROOM {
-        bytes[i] = (i / 31) as u8;
-        i += 1;
-    }
-    bytes
-}
-
-// Whether the reply's data are these bytes.
-fn carries(b: Bench, data: &[u8]) -> bool {
-    if b.len != data.len() + FRAGMENT_HEAD + 1 {
+// Whether these bytes, and no others, stand at the start of an output.
+fn holds(out: &[u8], n: usize, bytes: &[u8]) -> bool {
+    let filling = [FILLING; OUT_ROOM];
+    if n != bytes.len() {
         return false;
     }
-    let reply = b.reply;
-    check::same(front(behind(&reply, FRAGMENT_HEAD), data.len()), data)
+    check::same(front(out, n), bytes) && check::same(behind(out, n), behind(&filling, n))
 }
 
-// Reads the whole table, fragment after fragment, and the empty one behind them.
-fn reads_back(mut b: Bench, bytes: &[u8]) -> bool {
-    let mut k: usize = 0;
-    while k < READS {
-        let at = k * SIZE;
-        let next = read(b, at as u16);
-        b = next;
-        if !carries(b, front(behind(bytes, at), SIZE)) {
-            return false;
-        }
-        k += 1;
-    }
-    true
-}
-
-fn say(line: &[u8], good: bool) {
-    io::write_all(STDOUT_FILENO, line);
-    if good {
-        io::write_all(STDOUT_FILENO, b": as expected\n");
-    } else {
-        io::write_all(STDOUT_FILENO, b": WRONG\n");
-    }
-}
-
-// A table of 1,024 bytes is taken and read back.
-fn full_table(b: Bench, bytes: &[u8]) {
-    say(
-        b"a table of 1,024 bytes is written",
-        b.answer == answer::DONE,
-    );
-    say(b"a table of 1,024 bytes is read back", reads_back(b, bytes));
-}
-
-// A write that is refused with this answer.
-fn refused(mut b: Bench, at: u16, data: &[u8], answer: u8, line: &[u8]) -> Bench {
-    b = write(b, at, data);
-    say(line, b.answer == answer);
+fn count(mut b: Bench, good: bool) -> Bench {
+    b.rows = std::num::wrapping_add_u32(b.rows, 1);
+    b.good = b.good && good;
     b
 }
 
-// A table of 1,025 bytes is refused.
-fn table_too_long(mut b: Bench) -> Bench {
-    b = refused(
-        b,
-        1024,
-        b"x",
-        answer::TEXT_TOO_LONG,
-        b"1,025 bytes are refused with 11",
-    );
-    refused(
-        b,
-        1023,
-        b"xy",
-        answer::TEXT_TOO_LONG,
-        b"1,025 bytes in a write across the end are refused with 11",
+// Counts a start or a declaration, by the answer alone.
+fn answered(b: Bench, answer: u8, given: &[u8], due: &[u8]) -> Bench {
+    let good = answer == answer_due(due) && given.len() == FIELDS && due.len() == 1;
+    count(b, good)
+}
+
+// Counts a row by what a step gave: the answer, each byte of the output, and the fragment that was handed back.
+fn replied(b: Bench, due: &[u8]) -> Bench {
+    let out = b.out;
+    let good = b.answer == answer_due(due) && holds(&out, b.len, behind(due, 1)) && b.handed;
+    count(b, good)
+}
+
+// Starts another display: status, horizontal, vertical, fragment size, length of the capabilities string.
+fn start(mut b: Bench, given: &[u8], due: &[u8]) -> Bench {
+    let timing = Timing {
+        status: octet(given, 0),
+        horizontal: word(given, 1),
+        vertical: word(given, 3),
+    };
+    let n = wide(word(given, 7));
+    let bytes = bench::text();
+    let s = display::start(timing, front(&bytes, n), word(given, 5));
+    let display = s.display;
+    b.display = display;
+    b.text = if s.answer == 0 { n } else { 0 };
+    answered(b, s.answer, given, due)
+}
+
+// Declares a code: code, readable, writable, type, continuous, maximum, present.
+fn declare(mut b: Bench, given: &[u8], due: &[u8]) -> Bench {
+    let declaration = Declaration {
+        code: octet(given, 0),
+        readable: octet(given, 1) != 0,
+        writable: octet(given, 2) != 0,
+        kind: octet(given, 3),
+        continuous: octet(given, 4) != 0,
+        maximum: word(given, 5),
+        present: word(given, 7),
+    };
+    let before = b.display;
+    let s = display::declare(before, declaration);
+    let display = s.display;
+    b.display = display;
+    answered(b, s.answer, given, due)
+}
+
+// A message with buffers of these lengths.
+fn buffers(b: Bench, given: &[u8], due: &[u8]) -> Bench {
+    let text = wide(word(given, 0));
+    let table = wide(word(given, 2));
+    let room = byte_wide(octet(given, 4));
+    replied(
+        bench::step(b, text, table, room, behind(given, LENGTHS)),
+        due,
     )
 }
 
-// So is one with a gap.
-fn table_with_gap(b: Bench) -> Bench {
-    refused(
-        b,
-        1025,
-        b"",
-        answer::NOT_WANTED,
-        b"a write above the table's length is refused with 10",
-    )
+// Writes the profile into an output of this length.
+fn write_profile(b: Bench, given: &[u8], due: &[u8]) -> Bench {
+    let mut out = [FILLING; OUT_ROOM];
+    let display = b.display;
+    let settings = display.settings;
+    let w = profile::write(settings, front_mut(&mut out, byte_wide(octet(given, 0))));
+    let good = w.answer == answer_due(due) && holds(&out, w.len, behind(due, 1));
+    count(b, good)
 }
 
-// Nothing is changed by that.
-fn table_sizes() {
-    let mut b = filled();
-    let bytes = expected();
-    full_table(b, &bytes);
-    b = table_too_long(b);
-    b = table_with_gap(b);
-    say(b"the refusals change nothing", reads_back(b, &bytes));
+// Loads a profile; the place is due behind the answer.
+fn load_profile(mut b: Bench, given: &[u8], due: &[u8]) -> Bench {
+    let mut display = b.display;
+    let settings = display.settings;
+    let r = profile::load(settings, given);
+    let after = r.settings;
+    display.settings = after;
+    b.display = display;
+    let good = r.answer == answer_due(due) && r.position.0 == wide(word(due, 1)) && due.len() == 3;
+    count(b, good)
 }
 
-// A shorter table written at offset 0 has no tail of the longer old one.
-fn short_table() {
-    let mut b = filled();
-    b = write(b, 0, b"ab");
-    b = read(b, 0);
-    say(
-        b"a shorter table at offset 0 has no old tail",
-        carries(b, b"ab"),
-    );
+// Reads a filled table back.
+fn whole(mut b: Bench, due: &[u8]) -> Bench {
+    let bytes = bench::expected();
+    b = bench::read_whole(b, &bytes);
+    let good = b.answer == answer_due(due) && b.handed;
+    count(b, good)
 }
 
-// Whether the fragment of the reply stands at this offset.
-fn stands_at(b: Bench, offset: u8) -> bool {
-    let reply = b.reply;
-    reply[4] == offset
+// A row by the first letter of its word.
+fn run_row(b: Bench, letter: u8, given: &[u8], due: &[u8]) -> Bench {
+    match letter {
+        b's' => start(b, given, due),
+        b'd' => declare(b, given, due),
+        b'm' => replied(bench::obey(b, given), due),
+        b'b' => buffers(b, given, due),
+        b'f' => replied(bench::fill(b), due),
+        b'w' => whole(b, due),
+        b'p' => write_profile(b, given, due),
+        b'l' => load_profile(b, given, due),
+        _ => count(b, false),
+    }
 }
 
-// With the cursor at 64 the request for 32 goes to 0, and the same request again moves on to 32.
-fn sent_twice() {
-    let mut b = filled();
-    b = read(b, 0);
-    b = read(b, 32);
-    b = read(b, 64);
-    say(b"the third fragment is at 64", stands_at(b, 64));
-    b = read(b, 32);
-    say(b"the request for 32 then goes to 0", stands_at(b, 0));
-    b = read(b, 32);
-    say(
-        b"the same request sent twice moves on to 32",
-        stands_at(b, 32),
-    );
+// A line that is malformed counts as a row that fails.
+fn run_pairs(b: Bench, s: &[u8], from: usize) -> Bench {
+    let mut space = [0u8; LINE_ROOM];
+    let row = line::pairs(behind(s, from), &mut space);
+    if line::whole(row) {
+        return run_row(
+            b,
+            octet(s, 0),
+            front(&space, row.given),
+            behind(front(&space, row.count), row.given),
+        );
+    }
+    count(b, false)
+}
+
+// Writes the rest of a group's line.
+fn close(rows: u32, good: bool) {
+    io::write_all(STDOUT_FILENO, b": ");
+    io::print_decimal(STDOUT_FILENO, rows as u64);
+    if good {
+        io::write_all(STDOUT_FILENO, b" rows as expected\n");
+    } else {
+        io::write_all(STDOUT_FILENO, b" rows, WRONG\n");
+    }
+}
+
+// Ends the group before, and begins one.
+fn begin(mut b: Bench, s: &[u8]) -> Bench {
+    if b.rows != 0 {
+        close(b.rows, b.good);
+    }
+    let end = bytes::scan::find(s, 0, s.len(), b']');
+    io::write_all(STDOUT_FILENO, behind(front(s, end), 1));
+    b.rows = 0;
+    b.good = true;
+    b
+}
+
+// A line: a group's name in brackets, a row, a comment, or nothing.
+fn run_line(b: Bench, s: &[u8]) -> Bench {
+    match octet(s, 0) {
+        0 => b,
+        b'#' => b,
+        b'[' => begin(b, s),
+        _ => run_pairs(b, s, bytes::scan::find(s, 0, s.len(), b' ')),
+    }
+}
+
+// Returns what the last group came to.
+fn run_lines(mut b: Bench, s: &[u8]) -> Bench {
+    let mut at = 0;
+    while at < s.len() {
+        let end = bytes::scan::find(s, at, s.len(), b'\n');
+        let next = run_line(b, &s[at..end]);
+        b = next;
+        if end == s.len() {
+            return b;
+        }
+        at = end + 1;
+    }
+    b
 }
 
 fn main() {
-    table_sizes();
-    short_table();
-    sent_twice();
+    let mut input = [0u8; INPUT_ROOM];
+    let got = io::read_full(STDIN_FILENO, &mut input);
+    let first = Bench {
+        display: display::empty(),
+        text: 0,
+        table: [0u8; TABLE_BUFFER],
+        out: [FILLING; OUT_ROOM],
+        len: 0,
+        answer: 0,
+        handed: true,
+        rows: 0,
+        good: true,
+    };
+    let last = run_lines(first, &input[..got]);
+    close(last.rows, last.good);
 }

@@ -1,17 +1,14 @@
--- `display_vectors::filled` is safe and ends. The measure: the writes that are left.
+-- `display_vectors::bench::fill` is safe and ends. The measure: the writes that are left.
 use Prim.Native.Nat.{_-_, _≤_}
 use borrow.Author.Needs.{needs}
-use Rattle.display_vectors.proofs.filled.Statement.{statement}
-use Rattle.display_vectors.proofs.filled.Tie as tie
+use Rattle.display_vectors.proofs.bench.fill.Statement.{statement}
+use Rattle.display_vectors.proofs.bench.fill.Tie as tie
 
 abbrev Inv-loop : tie.InvT-loop
 Inv-loop b₀ k₀ b k = k ≤ 34
 
 abbrev μ-loop : tie.MeasureT-loop
 μ-loop b₀ k₀ b k = 34 - k
-
-started-requires : tie.Need-started-requires Inv-loop μ-loop
-started-requires c κs = search needs
 
 loop-holds : tie.Need-loop-holds Inv-loop μ-loop
 loop-holds c = search needs
@@ -34,13 +31,12 @@ loop-again c = search needs
 returns-2 : tie.Need-returns-2 Inv-loop μ-loop
 returns-2 c = search needs
 
-pub filled-spec : {M : Type 1} → statement M
-filled-spec =
+pub fill-spec : {M : Type 1} → statement M
+fill-spec =
     tie.close
     (tie.spec
     Inv-loop
     μ-loop
-    started-requires
     loop-holds
     write-part-requires
     returns

@@ -1,10 +1,10 @@
--- `display_vectors::expected` is safe and ends. The invariant: the array keeps its length. The measure: the bytes that are left.
+-- `display_vectors::bench::expected` is safe and ends. The invariant: the array keeps its length. The measure: the bytes that are left.
 use mathlib.Core.Path.{_≡_}
 use Prim.Native.Nat.{_-_}
 use lib.ListN.{length}
 use borrow.Author.Needs.{needs}
-use Rattle.display_vectors.proofs.expected.Statement.{statement}
-use Rattle.display_vectors.proofs.expected.Tie as tie
+use Rattle.display_vectors.proofs.bench.expected.Statement.{statement}
+use Rattle.display_vectors.proofs.bench.expected.Tie as tie
 
 abbrev Inv-loop : tie.InvT-loop
 Inv-loop bytes₀ i₀ bytes i = length bytes ≡ 1024

@@ -1,8 +1,8 @@
--- `display_vectors::reads_back` is safe and ends. The measure: the fragments that are left.
+-- `display_vectors::bench::read_whole` is safe and ends. The measure: the fragments that are left.
 use Prim.Native.Nat.{_-_, _≤_}
 use borrow.Author.Needs.{needs}
-use Rattle.display_vectors.proofs.reads_back.Statement.{statement}
-use Rattle.display_vectors.proofs.reads_back.Tie as tie
+use Rattle.display_vectors.proofs.bench.read_whole.Statement.{statement}
+use Rattle.display_vectors.proofs.bench.read_whole.Tie as tie
 
 abbrev Inv-loop : tie.InvT-loop
 Inv-loop b₀ bytes k₀ b k = k ≤ 33
@@ -46,8 +46,8 @@ loop-again c = search needs
 returns-2 : tie.Need-returns-2 Inv-loop μ-loop
 returns-2 c = search needs
 
-pub reads-back-spec : {M : Type 1} → statement M
-reads-back-spec =
+pub read-whole-spec : {M : Type 1} → statement M
+read-whole-spec =
     tie.close
     (tie.spec
     Inv-loop

@@ -1,0 +1,193 @@
+// A display on a bench: it, the memory of its table, and what its last step gave.
+use display_rules::Display;
+use display_texts::fragments::handed_back;
+use message_builder::Built;
+use message_builder::request;
+use message_rules::TABLE_CODE;
+use message_rules::TO_DISPLAY;
+use message_rules::TextOffset;
+use message_rules::limits::MOST_WRITTEN;
+use message_rules::limits::OUTPUT_ROOM;
+
+// One byte more than a capabilities string may have, than a table's buffer has, and than a reply needs: rows lend these sizes too.
+pub(crate) const TEXT_ROOM: usize = 4097;
+
+pub(crate) const TABLE_BUFFER: usize = 1025;
+
+pub(crate) const OUT_ROOM: usize = 39;
+
+// The sizes that are right.
+const TABLE_BYTES: usize = 1024;
+
+const OUT_BYTES: usize = 38;
+
+// What an output has in it before a step.
+pub(crate) const FILLING: u8 = 0xAA;
+
+// The writes that fill a table, and the reads that empty it: the last one is the empty fragment.
+const WRITES: u16 = 34;
+
+const READS: usize = 33;
+
+const SIZE: usize = 32;
+
+// `text` is the length of the capabilities string. `handed` says whether the fragment that was handed back is the data of the reply. `good` is whether all
+// rows of a group so far, `rows` of them, were as expected.
+pub(crate) struct Bench {
+    pub(crate) display: Display,
+    pub(crate) text: usize,
+    pub(crate) table: [u8; TABLE_BUFFER],
+    pub(crate) out: [u8; OUT_ROOM],
+    pub(crate) len: usize,
+    pub(crate) answer: u8,
+    pub(crate) handed: bool,
+    pub(crate) rows: u32,
+    pub(crate) good: bool,
+}
+
+// Returns the first n bytes of s, or all of it where it is shorter.
+pub(crate) fn front(s: &[u8], n: usize) -> &[u8] {
+    if n < s.len() { &s[0..n] } else { s }
+}
+
+pub(crate) fn front_mut(s: &mut [u8], n: usize) -> &mut [u8] {
+    if n < s.len() { &mut s[0..n] } else { s }
+}
+
+// Returns what stands behind the first n bytes.
+pub(crate) fn behind(s: &[u8], n: usize) -> &[u8] {
+    if n < s.len() { &s[n..] } else { &s[0..0] }
+}
+
+// Returns the byte at an index, or 0 past the end.
+pub(crate) fn octet(s: &[u8], at: usize) -> u8 {
+    if at < s.len() { s[at] } else { 0 }
+}
+
+// Returns the capabilities string of every display here: byte i of it is the low byte of i.
+pub(crate) fn text() -> [u8; TEXT_ROOM] {
+    let mut bytes = [0u8; TEXT_ROOM];
+    let mut i: usize = 0;
+    while i < TEXT_ROOM {
+        bytes[i] = (i % 256) as u8;
+        i += 1;
+    }
+    bytes
+}
+
+// Returns the data of a fragment message of n bytes; other messages have none.
+fn data_in(reply: &[u8], n: usize) -> &[u8] {
+    let command = octet(reply, 2);
+    if n >= 6 && (command == 0xE3 || command == 0xE4) {
+        return behind(front(reply, n - 1), 5);
+    }
+    &reply[0..0]
+}
+
+// One step, with so many bytes of the text, of the table's buffer and of the output.
+pub(crate) fn step(mut b: Bench, lent: usize, table: usize, room: usize, message: &[u8]) -> Bench {
+    let before = b.display;
+    let bytes = text();
+    let kept = front(&bytes, lent);
+    let mut buffer = b.table;
+    let mut out = [FILLING; OUT_ROOM];
+    let s = display::step(
+        before,
+        kept,
+        front_mut(&mut buffer, table),
+        message,
+        front_mut(&mut out, room),
+    );
+    let after = s.display;
+    let found = s.found;
+    b.display = after;
+    b.handed = check::same(handed_back(kept, &buffer, found), data_in(&out, s.len));
+    b.table = buffer;
+    b.out = out;
+    b.len = s.len;
+    b.answer = s.answer;
+    b
+}
+
+// One step with everything lent in its right size.
+pub(crate) fn obey(b: Bench, message: &[u8]) -> Bench {
+    let lent = b.text;
+    step(b, lent, TABLE_BYTES, OUT_BYTES, message)
+}
+
+fn length_of(built: Built) -> usize {
+    match built {
+        Built::Done(n) => n,
+        Built::Refused(answer) => 0,
+    }
+}
+
+// Write k of the table of 1,024 bytes, in writes of 31: its bytes are k. The last write has one byte.
+fn write_part(b: Bench, k: u16) -> Bench {
+    let part = k % WRITES;
+    let data = [part as u8; MOST_WRITTEN];
+    let n = if part == WRITES - 1 { 1 } else { MOST_WRITTEN };
+    let mut m = [0u8; OUTPUT_ROOM];
+    let at = part * MOST_WRITTEN as u16;
+    let built = request::build_table_write(
+        TO_DISPLAY,
+        TABLE_CODE,
+        TextOffset(at),
+        front(&data, n),
+        &mut m,
+    );
+    obey(b, front(&m, length_of(built)))
+}
+
+// Fills the table. A write that is refused is the last one, and its answer stays.
+pub(crate) fn fill(mut b: Bench) -> Bench {
+    let mut k: u16 = 0;
+    while k < WRITES {
+        let next = write_part(b, k);
+        b = next;
+        if b.answer != 0 {
+            return b;
+        }
+        k += 1;
+    }
+    b
+}
+
+// Returns what those writes should leave.
+pub(crate) fn expected() -> [u8; TABLE_BYTES] {
+    let mut bytes = [0u8; TABLE_BYTES];
+    let mut i: usize = 0;
+    while i < TABLE_BYTES {
+        bytes[i] = (i / 31) as u8;
+        i += 1;
+    }
+    bytes
+}
+
+fn read(b: Bench, at: u16) -> Bench {
+    let mut m = [0u8; OUTPUT_ROOM];
+    let built = request::build_table_read(TO_DISPLAY, TABLE_CODE, TextOffset(at), &mut m);
+    obey(b, front(&m, length_of(built)))
+}
+
+// Whether the reply carries these data, and they are what was handed back.
+fn carries(b: Bench, data: &[u8]) -> bool {
+    let out = b.out;
+    b.handed && check::same(data_in(&out, b.len), data)
+}
+
+// Reads a table whole, fragment after fragment, and the empty one behind them. `handed` says whether they were these bytes.
+pub(crate) fn read_whole(mut b: Bench, bytes: &[u8]) -> Bench {
+    let mut k: usize = 0;
+    while k < READS {
+        let at = k * SIZE;
+        let next = read(b, at as u16);
+        b = next;
+        if !carries(b, front(behind(bytes, at), SIZE)) {
+            b.handed = false;
+            return b;
+        }
+        k += 1;
+    }
+    b
+}

@@ -10,14 +10,14 @@ pub enum Next {
     Nothing,
 }
 
-// The set of no code.
+// Returns the set of no code.
 pub fn none() -> [u64; 4]
     ensures { λ r. ⌜ r ≡ noCodes ⌝ }
 {
     [0u64; 4]
 }
 
-// Whether the code is in the set.
+// Returns whether the code is in the set.
 pub fn contains(words: [u64; 4], code: u8) -> bool
     ensures { λ r. ⌜ r ≡ member words code ⌝ }
 {
@@ -26,7 +26,7 @@ pub fn contains(words: [u64; 4], code: u8) -> bool
     (words[i] >> s) % 2 == 1
 }
 
-// The word with bit s set or cleared.
+// Returns the word with bit s set or cleared.
 fn with_bit(w: u64, s: u8, inside: bool) -> u64
     requires { ⌜ s < 64 ⌝ }
     ensures { λ r. ⌜ r ≡ bitAssigned w s inside ⌝ }
@@ -35,7 +35,7 @@ fn with_bit(w: u64, s: u8, inside: bool) -> u64
     if inside { w | mask } else { (w | mask) ^ mask }
 }
 
-// The set with or without the code.
+// Returns the set with or without the code.
 pub fn assign(words: [u64; 4], code: u8, inside: bool) -> [u64; 4]
     ensures { λ r. ⌜ r ≡ assigned words code inside ⌝ }
 {
@@ -45,28 +45,29 @@ pub fn assign(words: [u64; 4], code: u8, inside: bool) -> [u64; 4]
     w
 }
 
-// The set with the code in it.
+// Returns the set with the code in it.
 pub fn insert(words: [u64; 4], code: u8) -> [u64; 4]
     ensures { λ r. ⌜ r ≡ inserted words code ⌝ }
 {
     assign(words, code, true)
 }
 
-// How many bits of the word are set.
+// Returns how many bits of the word are set.
 fn weight(w: u64) -> u32
     ensures { λ r. ⌜ Weight w r ⌝ }
 {
     u64::count_ones(w)
 }
 
-// How many codes are in the set.
+// Returns how many codes are in the set.
 pub fn count(words: [u64; 4]) -> u32
     ensures { λ r. ⌜ r ≡ countOf words ⌝ }
 {
     weight(words[0]) + weight(words[1]) + weight(words[2]) + weight(words[3])
 }
 
-// The least index from s on at which a bit of w is set, or 64: the bits below s are masked out.
+// Returns the least index from s on at which a bit of w is set, or 64.
+// The bits below s are masked out.
 fn bit_from(w: u64, s: u8) -> u32
     requires { ⌜ s < 64 ⌝ }
     ensures { λ r. ⌜ FirstBit w s r ⌝ }
@@ -75,7 +76,8 @@ fn bit_from(w: u64, s: u8) -> u32
     u64::trailing_zeros(w & mask)
 }
 
-// The least code from the given number on that is in the set. From 256 on there is none.
+// Returns the least code from the given number on that is in the set, or nothing.
+// From 256 on there is none.
 pub fn next_from(words: [u64; 4], from: u16) -> Next
     ensures { λ r. ⌜ r ≡ nextOf words from ⌝ }
 {

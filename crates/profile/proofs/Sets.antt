@@ -12,15 +12,15 @@ use Rattle.settings.specs.Entries.{entryOf}
 use Rattle.settings.specs.declared.Settings.{Settings}
 use Rattle.profile_rules.specs.Profile.{inProfile, profileCode, profileCodes, codesFrom}
 use Rattle.profile_rules.proofs.Rising.{rising-ext}
-use Rattle.profile.specs.Parts.{keptWord, keptWords}
+use Rattle.profile.specs.Parts.{profileWord, profileWords}
 
 bit-and : (a b i : ℕ) → bit (bitAnd a b) i ≡ bit a i && bit b i
 bit-and = bit-of-operation bitAnd (λ p q. p && q) and-shr and-mod refl refl refl refl
 
 -- the bits of a word so made
 bit-kept : (d r w m : List ℕ) (i j : ℕ)
-    → bit (keptWord d r w m i) j ≡ bit (getD d i 0) j && (bit (getD r i 0) j && (bit (getD w i 0) j && not (bit (getD m i 0) j)))
-unfolding keptWord
+    → bit (profileWord d r w m i) j ≡ bit (getD d i 0) j && (bit (getD r i 0) j && (bit (getD w i 0) j && not (bit (getD m i 0) j)))
+unfolding profileWord
 bit-kept d r w m i j =
     let access = bitAnd (bitAnd (getD d i 0) (getD r i 0)) (getD w i 0) in
     bit-xor (bitOr access (getD m i 0)) (getD m i 0) j
@@ -38,8 +38,8 @@ bit-kept d r w m i j =
     same false q r false = refl
 
 -- the words one by one
-word-at : (d r w m : List ℕ) (i : ℕ) → i < 4 → getD (keptWords d r w m) i 0 ≡ keptWord d r w m i
-unfolding keptWords
+word-at : (d r w m : List ℕ) (i : ℕ) → i < 4 → getD (profileWords d r w m) i 0 ≡ profileWord d r w m i
+unfolding profileWords
 word-at d r w m zero h = refl
 word-at d r w m (suc zero) h = refl
 word-at d r w m (suc (suc zero)) h = refl
@@ -47,11 +47,11 @@ word-at d r w m (suc (suc (suc zero))) h = refl
 word-at d r w m (suc (suc (suc (suc i)))) h = absurd (omega arith)
 
 -- the set of the words has the profile's codes
-set-member : (s : Settings) (c : ℕ) → c < allCodes → member (keptWords (s .declared) (s .readable) (s .writable) (s .momentary)) c ≡ profileCode s c
+set-member : (s : Settings) (c : ℕ) → c < allCodes → member (profileWords (s .declared) (s .readable) (s .writable) (s .momentary)) c ≡ profileCode s c
 unfolding member profileCode inProfile entryOf
 set-member s c h =
     ap (λ (w : ℕ). bit w (c % 64)) (word-at (s .declared) (s .readable) (s .writable) (s .momentary) (c / 64) (omega arith))
     ∙ bit-kept (s .declared) (s .readable) (s .writable) (s .momentary) (c / 64) (c % 64)
 
-pub set-codes : (s : Settings) (ws : List ℕ) → ws ≡ keptWords (s .declared) (s .readable) (s .writable) (s .momentary) → codesFrom (member ws) 0 ≡ profileCodes s
+pub set-codes : (s : Settings) (ws : List ℕ) → ws ≡ profileWords (s .declared) (s .readable) (s .writable) (s .momentary) → codesFrom (member ws) 0 ≡ profileCodes s
 set-codes s ws e = rising-ext (member ws) (profileCode s) allCodes 0 (λ i l h. ap (λ (v : List ℕ). member v i) e ∙ set-member s i (omega arith))

@@ -9,11 +9,11 @@ use Rattle.profile_rules.specs.declared.Judged.{Judged}
 use Rattle.profile_rules.specs.Records.{recordSize, codeIn, valueIn}
 
 -- word i of the set of those codes that are in the sets d, r and w and not in m: the bits of m are set, and turned over after that
-unfoldable pub keptWord : (d r w m : List ℕ) → ℕ → ℕ
-keptWord d r w m i = bitXor (bitOr (bitAnd (bitAnd (getD d i 0) (getD r i 0)) (getD w i 0)) (getD m i 0)) (getD m i 0)
+unfoldable pub profileWord : (d r w m : List ℕ) → ℕ → ℕ
+profileWord d r w m i = bitXor (bitOr (bitAnd (bitAnd (getD d i 0) (getD r i 0)) (getD w i 0)) (getD m i 0)) (getD m i 0)
 
-unfoldable pub keptWords : (d r w m : List ℕ) → List ℕ
-keptWords d r w m = keptWord d r w m 0 ∷ keptWord d r w m 1 ∷ keptWord d r w m 2 ∷ keptWord d r w m 3 ∷ []
+unfoldable pub profileWords : (d r w m : List ℕ) → List ℕ
+profileWords d r w m = profileWord d r w m 0 ∷ profileWord d r w m 1 ∷ profileWord d r w m 2 ∷ profileWord d r w m 3 ∷ []
 
 -- s put into the output at a position; the rest stays
 unfoldable pub put : (out : List ℕ) (at : ℕ) (s : List ℕ) → List ℕ

@@ -1,6 +1,7 @@
 // Writing and loading the settings profile, each proved equal to its definition in profile_rules.
 //
-// Both walk the profile's codes by the next code of one set: the codes that are declared, readable and writable and not momentary.
+// Both walk the profile's codes by the next code of one set.
+// The set has the codes that are declared, readable and writable and not momentary.
 // Loading judges the profile in a first pass that stores nothing, so that a refusal has nothing to undo.
 use codes::Next;
 use message_rules::Position;
@@ -22,7 +23,7 @@ ghost use lib.ListN.{length, getD, drop};
 ghost use Rattle.codes.specs.Codes.{member};
 ghost use Rattle.profile_rules.specs.Records.{valueRecord, recordSize, wordAt, beginsWithRecord};
 ghost use Rattle.profile_rules.specs.Profile.{codesFrom, recordsOf, writeProfile, recordAnswer, judgeProfile, loadProfile};
-ghost use Rattle.profile.specs.Parts.{keptWord, keptWords, put, judgedAt, storedRecords};
+ghost use Rattle.profile.specs.Parts.{profileWord, profileWords, put, judgedAt, storedRecords};
 
 // Returns the byte as a wider number.
 fn wide(x: u8) -> usize
@@ -48,9 +49,9 @@ fn after(at: Position, n: usize) -> Position
 }
 
 // Returns one word of the set of the profile's codes: the bits of the first three sets together, without those of the fourth.
-fn kept_word(d: [u64; 4], r: [u64; 4], w: [u64; 4], m: [u64; 4], i: usize) -> u64
+fn profile_word(d: [u64; 4], r: [u64; 4], w: [u64; 4], m: [u64; 4], i: usize) -> u64
     requires { ⌜ i < 4 ⌝ }
-    ensures { λ k. ⌜ k ≡ keptWord d r w m i ⌝ }
+    ensures { λ k. ⌜ k ≡ profileWord d r w m i ⌝ }
 {
     let momentary = m[i];
     ((d[i] & r[i] & w[i]) | momentary) ^ momentary
@@ -58,13 +59,13 @@ fn kept_word(d: [u64; 4], r: [u64; 4], w: [u64; 4], m: [u64; 4], i: usize) -> u6
 
 // Returns the set of the profile's codes, from the sets of those that are declared, readable, writable and momentary.
 fn profile_codes(d: [u64; 4], r: [u64; 4], w: [u64; 4], m: [u64; 4]) -> [u64; 4]
-    ensures { λ k. ⌜ k ≡ keptWords d r w m ⌝ }
+    ensures { λ k. ⌜ k ≡ profileWords d r w m ⌝ }
 {
     [
-        kept_word(d, r, w, m, 0),
-        kept_word(d, r, w, m, 1),
-        kept_word(d, r, w, m, 2),
-        kept_word(d, r, w, m, 3),
+        profile_word(d, r, w, m, 0),
+        profile_word(d, r, w, m, 1),
+        profile_word(d, r, w, m, 2),
+        profile_word(d, r, w, m, 3),
     ]
 }
 
@@ -186,7 +187,7 @@ fn judged(answer: u8, at: Position) -> Judged
 
 // Judges a profile, record by record, and stores nothing.
 // Returns the first bad record's answer and position, or 0 and the end of the profile.
-fn judge(s: Settings, profile: &[u8]) -> Judged
+fn judge_profile(s: Settings, profile: &[u8]) -> Judged
     ensures { λ r. ⌜ r ≡ judgeProfile s (now (profile .entry)) ⌝ }
 {
     let words = profile_codes(s.declared, s.readable, s.writable, s.momentary);
@@ -240,7 +241,7 @@ fn store(mut s: Settings, profile: &[u8]) -> Settings
 pub fn load(s: Settings, profile: &[u8]) -> Loaded
     ensures { λ r. ⌜ r ≡ loadProfile s (now (profile .entry)) ⌝ }
 {
-    let found = judge(s, profile);
+    let found = judge_profile(s, profile);
     let answer = found.answer;
     let position = found.position;
     if answer == DONE {

@@ -1,7 +1,7 @@
 // The values of one device by its VCP codes, with its timing: what declaring, Get, Set and Save do with them.
 //
-// Four yes-or-no properties of each code are code sets, as the set of declared codes is: the state is a third smaller than with an array of
-// flags for each, one proved test reads all five, and codes with several properties are found by whole words.
+// Four yes-or-no properties of each code are sets of codes, as the declared codes are.
+// So one proved test reads all five, and codes with several properties are found by whole words.
 use codes::Next;
 use message_rules::TABLE_CODE;
 use message_rules::answer::CODE_NOT_ALLOWED;
@@ -25,8 +25,8 @@ pub struct Timing {
     pub vertical: u16,
 }
 
-// What a device keeps for each code 0 to 255, and the three fields of its timing. These stand between the arrays: a number in between makes the compiler copy the arrays one by one, and not through a copy of the whole, where a Set
-// or a Save puts another array in the place of one.
+// What a device keeps for each code 0 to 255, and the three fields of its timing.
+// The timing's numbers stand between the arrays, so that fewer bytes are copied (docs/PROVING-NOTES.md).
 #[repr(C)]
 pub struct Settings {
     pub declared: [u64; 4],
@@ -42,19 +42,21 @@ pub struct Settings {
     pub status: u8,
 }
 
-// What is said of a code when it is declared. The kind is the type: 0 (kept) or 1 (momentary).
+// What is said of a code when it is declared.
 #[repr(C)]
 pub struct Declaration {
     pub code: u8,
     pub readable: bool,
     pub writable: bool,
+    // The type: 0 (kept) or 1 (momentary).
     pub kind: u8,
     pub continuous: bool,
     pub maximum: u16,
     pub present: u16,
 }
 
-// An answer number, with the settings afterwards. The settings stand first, at the start of the struct, where they are cheaper to copy.
+// An answer number, with the settings afterwards.
+// The settings stand first, where they are cheaper to copy.
 pub struct Change {
     pub settings: Settings,
     pub answer: u8,
@@ -66,16 +68,17 @@ pub struct Judgement {
     pub stored: bool,
 }
 
-// The fields of a Value reply. The kind is its type byte.
+// The fields of a Value reply.
 pub struct Feature {
     pub result: u8,
     pub code: u8,
+    // The type byte.
     pub kind: u8,
     pub maximum: u16,
     pub present: u16,
 }
 
-// No code is declared, and the timing is the one given.
+// Returns settings with the timing and no code.
 fn starting(timing: Timing) -> Settings
     ensures { λ r. ⌜ r ≡ startingSettings timing ⌝ }
 {
@@ -94,7 +97,7 @@ fn starting(timing: Timing) -> Settings
     }
 }
 
-// The settings that a refused start leaves: no code, and timing 0.
+// Returns the settings that a refused start leaves: no code, and timing 0.
 pub fn empty() -> Settings
     ensures { λ r. ⌜ r ≡ emptySettings ⌝ }
 {
@@ -105,7 +108,8 @@ pub fn empty() -> Settings
     })
 }
 
-// Settings with a timing and no code yet; 18 and the empty settings where a reserved bit of the status is set.
+// Returns settings with a timing and no code yet.
+// Where a reserved bit of the status is set, it returns 18 and the empty settings.
 pub fn start(timing: Timing) -> Change
     ensures { λ r. ⌜ r ≡ startWith timing ⌝ }
 {
@@ -123,14 +127,15 @@ pub fn start(timing: Timing) -> Change
     }
 }
 
-// Whether the value is above the maximum of a continuous code. The maximum of another code is never judged.
+// Returns whether the value is above the maximum of a continuous code.
+// The maximum of another code is never judged.
 pub fn exceeds(continuous: bool, maximum: u16, value: u16) -> bool
     ensures { λ r. ⌜ r ≡ exceedsMaximum continuous maximum value ⌝ }
 {
     if continuous { maximum < value } else { false }
 }
 
-// Whether a code of this access and type may not be declared.
+// Returns whether a code of this access and type may not be declared.
 fn access_refused(readable: bool, writable: bool, momentary: bool) -> bool
     ensures { λ r. ⌜ r ≡ accessRefused readable writable momentary ⌝ }
 {
@@ -143,7 +148,7 @@ fn access_refused(readable: bool, writable: bool, momentary: bool) -> bool
     true
 }
 
-// Whether declaring is refused, of a code that is declared already or not.
+// Returns whether declaring is refused, of a code that is declared already or not.
 fn declaration_refused(declared: bool, d: Declaration) -> bool
     ensures { λ r. ⌜ r ≡ declarationRefused declared d ⌝ }
 {
@@ -162,7 +167,7 @@ fn declaration_refused(declared: bool, d: Declaration) -> bool
     exceeds(d.continuous, d.maximum, d.present)
 }
 
-// The settings with the code as it is declared.
+// Returns the settings with the code as it is declared.
 fn with_declaration(mut s: Settings, d: Declaration) -> Settings
     ensures { λ r. ⌜ r ≡ withDeclaration s d ⌝ }
 {
@@ -178,7 +183,7 @@ fn with_declaration(mut s: Settings, d: Declaration) -> Settings
     s
 }
 
-// The settings with the code declared, or 18 and the same settings.
+// Returns the settings with the code declared, or 18 and the same settings.
 pub fn declare(s: Settings, d: Declaration) -> Change
     ensures { λ r. ⌜ r ≡ declareCode s d ⌝ }
 {
@@ -212,7 +217,7 @@ pub fn next_declared(s: Settings, from: u16) -> Next
     codes::next_from(searched, from)
 }
 
-// The answer to a Set, from what is kept of its code and whether the value is above the maximum.
+// Returns the answer to a Set, from what is known of its code and whether the value is above the maximum.
 fn set_answer(declared: bool, code: u8, writable: bool, above: bool) -> u8
     ensures { λ r. ⌜ r ≡ answerToSet declared code writable above ⌝ }
 {
@@ -230,7 +235,8 @@ fn set_answer(declared: bool, code: u8, writable: bool, above: bool) -> u8
     CODE_NOT_ALLOWED
 }
 
-// Whether the value is above the maximum of a continuous code. The maxima are taken out only for such a code, so that no more is copied.
+// Returns whether the value is above the maximum of the code, if that is continuous.
+// The maxima are taken out only for such a code, so that no more is copied.
 fn above_maximum(s: Settings, code: u8, value: u16) -> bool
     ensures { λ r. ⌜ r ≡ exceedsMaximum (member (s .continuous) code) (getD (s .maximum) code 0) value ⌝ }
 {
@@ -243,7 +249,8 @@ fn above_maximum(s: Settings, code: u8, value: u16) -> bool
     false
 }
 
-// What a Set of the code to the value comes to. Whoever holds the settings stores the value where they are, so that they are not passed on and back.
+// Returns what a Set of the code to the value comes to.
+// Whoever holds the settings stores the value in them, so that they are not passed on and back.
 pub fn judge_set(s: Settings, code: u8, value: u16) -> Judgement
     ensures { λ r. ⌜ r ≡ judgeSet s code value ⌝ }
 {
@@ -272,7 +279,7 @@ pub fn judge_set(s: Settings, code: u8, value: u16) -> Judgement
     }
 }
 
-// A Save: every saved value is the present one.
+// Returns the settings after a Save: every saved value is the present one.
 pub fn save(mut s: Settings) -> Settings
     ensures { λ r. ⌜ r ≡ saveAll s ⌝ }
 {
@@ -281,14 +288,15 @@ pub fn save(mut s: Settings) -> Settings
     s
 }
 
-// The type byte of a Value reply.
+// Returns the type byte of a Value reply.
 fn type_number(momentary: bool) -> u8
     ensures { λ r. ⌜ r ≡ typeNumber momentary ⌝ }
 {
     if momentary { MOMENTARY } else { 0 }
 }
 
-// A Get of the code. The two arrays are taken out only where they are shown, so that the settings are not copied whole.
+// Returns what a Get of the code shows.
+// The two arrays are taken out only where they are shown, so that the settings are not copied whole.
 pub fn get(s: Settings, code: u8) -> Feature
     ensures { λ r. ⌜ r ≡ getCode s code ⌝ }
 {

@@ -1,8 +1,8 @@
--- `kept_word` reads one word of each set.
+-- `profile_word` reads one word of each set.
 use borrow.Author.Needs.{needs}
-use Rattle.profile.specs.Parts.{keptWord}
-use Rattle.profile.proofs.kept_word.Statement.{statement}
-use Rattle.profile.proofs.kept_word.Tie as tie
+use Rattle.profile.specs.Parts.{profileWord}
+use Rattle.profile.proofs.profile_word.Statement.{statement}
+use Rattle.profile.proofs.profile_word.Tie as tie
 
 mul-momentary : tie.Need-mul-momentary
 mul-momentary c = search needs
@@ -29,11 +29,11 @@ array-read-result-3 : tie.Need-array-read-result-3
 array-read-result-3 c = search needs
 
 returns : tie.Need-returns
-unfolding keptWord
+unfolding profileWord
 returns c = search needs
 
-pub kept-word-spec : {M : Type 1} → statement M
-kept-word-spec =
+pub profile-word-spec : {M : Type 1} → statement M
+profile-word-spec =
     tie.close
     (tie.spec
     mul-momentary

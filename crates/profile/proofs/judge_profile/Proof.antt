@@ -1,4 +1,4 @@
--- `judge` goes from code to code. The invariant: judging what is left, from the next code on, comes to judging the whole profile. The measure: the
+-- `judge_profile` goes from code to code. The invariant: judging what is left, from the next code on, comes to judging the whole profile. The measure: the
 -- codes left.
 use mathlib.Core.Path.{_≡_, sym, _∙_}
 use Prim.Native.Nat.{_+_, _-_, _≤_}
@@ -12,8 +12,8 @@ use Rattle.profile_rules.proofs.Rising.{Found, next-found, next-nothing}
 use Rattle.profile.specs.Parts.{judgedAt}
 use Rattle.profile.proofs.Sets.{set-codes}
 use Rattle.profile.proofs.Loading.{Left, left-starts, left-turn, left-refused, left-end, left-more, answer-from, answered-whole}
-use Rattle.profile.proofs.judge.Statement.{statement}
-use Rattle.profile.proofs.judge.Tie as tie
+use Rattle.profile.proofs.judge_profile.Statement.{statement}
+use Rattle.profile.proofs.judge_profile.Tie as tie
 
 abbrev Inv-loop : tie.InvT-loop
 Inv-loop profile s words at₀ from₀ at from = (from ≤ allCodes) × (at .0 ≤ length profile) × Left s words profile (at .0) from
@@ -134,8 +134,8 @@ returns-3 c =
     let none = next-nothing _ _ (sym (c .before .before .before .enum-told .given .1) ∙ c .before .before .before .before .before .next-from .ensures) in
     c .judged3 .ensures ∙ left-more (given .t1) (turn .before .profile-codes .result) (given .profile .now) (turn .loop .at .0) (turn .loop .from) (turn .loop .inv .2) none (turn .loop .inv .1) (c .before .if2 .left)
 
-pub judge-spec : {M : Type 1} → statement M
-judge-spec =
+pub judge-profile-spec : {M : Type 1} → statement M
+judge-profile-spec =
     tie.close
     (tie.spec
     Inv-loop

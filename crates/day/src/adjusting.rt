@@ -56,10 +56,10 @@ pub(crate) fn set(mut s: Site, text: &[u8], code: u8, value: u16, wanted: u8) ->
 fn value_of(s: Site) -> u16 {
     let bytes = s.reply.bytes;
     match read_display_reply(&bytes) {
-        ReplyRead::Value(_, _, _, _, present) => present,
-        ReplyRead::Timing(_, _, _) => 0,
-        ReplyRead::TextFragment(_, _, _) => 0,
-        ReplyRead::TableFragment(_, _, _) => 0,
+        ReplyRead::Value { present, .. } => present,
+        ReplyRead::Timing { .. } => 0,
+        ReplyRead::TextFragment { .. } => 0,
+        ReplyRead::TableFragment { .. } => 0,
         ReplyRead::Refused(_) => 0,
     }
 }

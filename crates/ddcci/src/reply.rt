@@ -71,26 +71,20 @@ fn reply_numbers(read: ReplyRead) -> ReplyNumbers
     ensures { λ r. ⌜ r ≡ replyNumbers read ⌝ }
 {
     match read {
-        ReplyRead::Value(result, code, kind, max, present) => field_numbers(
-            answer::DONE,
-            0x02,
+        ReplyRead::Value {
             result,
             code,
             kind,
             max,
             present,
-        ),
-        ReplyRead::Timing(status, horizontal, vertical) => field_numbers(
-            answer::DONE,
-            0x4E,
+        } => field_numbers(answer::DONE, 0x02, result, code, kind, max, present),
+        ReplyRead::Timing {
             status,
-            0,
-            0,
             horizontal,
             vertical,
-        ),
-        ReplyRead::TextFragment(offset, at, len) => fragment_numbers(0xE3, offset.0, at.0, len),
-        ReplyRead::TableFragment(offset, at, len) => fragment_numbers(0xE4, offset.0, at.0, len),
+        } => field_numbers(answer::DONE, 0x4E, status, 0, 0, horizontal, vertical),
+        ReplyRead::TextFragment { offset, at, len } => fragment_numbers(0xE3, offset.0, at.0, len),
+        ReplyRead::TableFragment { offset, at, len } => fragment_numbers(0xE4, offset.0, at.0, len),
         ReplyRead::Refused(k) => field_numbers(k, 0, 0, 0, 0, 0, 0),
     }
 }

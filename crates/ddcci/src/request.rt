@@ -39,12 +39,17 @@ fn request_numbers(read: RequestRead) -> RequestNumbers
 {
     match read {
         RequestRead::Get(code) => message_numbers(0x01, code, 0),
-        RequestRead::Set(code, value) => message_numbers(0x03, code, value),
+        RequestRead::Set { code, value } => message_numbers(0x03, code, value),
         RequestRead::Timing => message_numbers(0x07, 0, 0),
         RequestRead::Save => message_numbers(0x0C, 0, 0),
         RequestRead::Text(offset) => message_numbers(0xF3, 0, offset.0),
-        RequestRead::TableRead(code, offset) => message_numbers(0xE2, code, offset.0),
-        RequestRead::TableWrite(code, offset, at, len) => RequestNumbers {
+        RequestRead::TableRead { code, offset } => message_numbers(0xE2, code, offset.0),
+        RequestRead::TableWrite {
+            code,
+            offset,
+            at,
+            len,
+        } => RequestNumbers {
             answer: answer::DONE,
             command: 0xE7,
             code: code,

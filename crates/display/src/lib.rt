@@ -140,19 +140,22 @@ fn obey(
             let length = operation::get(d.settings, code, out);
             Pending::Replied(length)
         }
-        RequestRead::Set(code, value) => operation::set(d.settings, code, value),
+        RequestRead::Set { code, value } => operation::set(d.settings, code, value),
         RequestRead::Timing => operation::timing(d.settings, out),
         RequestRead::Save => Pending::Save,
         RequestRead::Text(q) => {
             let kind = TextKind::Capabilities;
             operation::read(kind, d.capabilities, d.size, text, table, q, out)
         }
-        RequestRead::TableRead(code, q) => {
+        RequestRead::TableRead { code, offset: q } => {
             operation::table_read(d.table, d.size, text, table, code, q, out)
         }
-        RequestRead::TableWrite(code, at, position, n) => {
-            operation::write(d.table.len, table, code, at, message, position, n)
-        }
+        RequestRead::TableWrite {
+            code,
+            offset: at,
+            at: position,
+            len: n,
+        } => { operation::write(d.table.len, table, code, at, message, position.0, n) }
         RequestRead::Refused(answer) => operation::refuse(answer, out),
     }
 }

@@ -69,14 +69,14 @@ fn set(h: Host, value: u16) -> Host {
 fn heard(h: Host) -> Got {
     let reply = h.reply;
     match read_display_reply(front(&reply, h.len)) {
-        ReplyRead::Value(_, _, _, _, present) => Got {
+        ReplyRead::Value { present, .. } => Got {
             host: h,
             came: true,
             present: present,
         },
-        ReplyRead::Timing(_, _, _) => nothing(h),
-        ReplyRead::TextFragment(_, _, _) => nothing(h),
-        ReplyRead::TableFragment(_, _, _) => nothing(h),
+        ReplyRead::Timing { .. } => nothing(h),
+        ReplyRead::TextFragment { .. } => nothing(h),
+        ReplyRead::TableFragment { .. } => nothing(h),
         ReplyRead::Refused(_) => nothing(h),
     }
 }

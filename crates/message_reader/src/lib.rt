@@ -7,23 +7,53 @@ mod table;
 use message_rules::Position;
 use message_rules::TextOffset;
 
-// What reading a request comes to. Data: where they start in the slice, and how many they are.
+// What reading a request comes to: a message with its fields, or the number of a refusal.
+// Get has a code, Text an offset. Data are `len` bytes of the slice, from the position `at` on.
 pub enum RequestRead {
     Get(u8),
-    Set(u8, u16),
+    Set {
+        code: u8,
+        value: u16,
+    },
     Timing,
     Save,
     Text(TextOffset),
-    TableRead(u8, TextOffset),
-    TableWrite(u8, TextOffset, Position, usize),
+    TableRead {
+        code: u8,
+        offset: TextOffset,
+    },
+    TableWrite {
+        code: u8,
+        offset: TextOffset,
+        at: Position,
+        len: usize,
+    },
     Refused(u8),
 }
 
-// What reading a reply comes to. The null message is refusal 12.
+// What reading a reply comes to, likewise. The null message is refusal 12.
 pub enum ReplyRead {
-    Value(u8, u8, u8, u16, u16),
-    Timing(u8, u16, u16),
-    TextFragment(TextOffset, Position, usize),
-    TableFragment(TextOffset, Position, usize),
+    Value {
+        result: u8,
+        code: u8,
+        kind: u8,
+        max: u16,
+        present: u16,
+    },
+    Timing {
+        status: u8,
+        horizontal: u16,
+        vertical: u16,
+    },
+    TextFragment {
+        offset: TextOffset,
+        at: Position,
+        len: usize,
+    },
+    TableFragment {
+        offset: TextOffset,
+        at: Position,
+        len: usize,
+    },
     Refused(u8),
 }

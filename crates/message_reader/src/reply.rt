@@ -2,6 +2,7 @@
 ghost use mathlib.Core.Path.{_≡_};
 ghost use Rattle.message_rules.specs.Message.{decode, replies, toHost};
 ghost use Rattle.message_rules.specs.Row as row;
+ghost use Rattle.message_rules.specs.declared.ReplyKind.the-variants as kinds;
 ghost use Rattle.message_reader.specs.Outcome.{ReplyMeans, Readable, ReplyHolds};
 ghost use Rattle.message_reader.specs.Parts.{bodyIn};
 ghost use Rattle.message_reader.specs.Start.{startsWith, nullBytes};
@@ -42,41 +43,71 @@ const OFFSET: Position = Position(3);
 
 const DATA: Position = Position(5);
 
+// Returns a Value whose length is right, or 7 for a result or a type that is not allowed.
+fn value_in(s: &[u8]) -> ReplyRead
+    requires { ⌜ Readable (row.Reply kinds.Value) (now s) ⌝ }
+    ensures { λ r. ⌜ ReplyMeans (now (s .entry)) r (bodyIn replies (row.Reply kinds.Value) (now (s .entry))) ⌝ }
+{
+    let result = frame::byte_at(s, RESULT);
+    let code = frame::byte_at(s, CODE);
+    let kind = frame::byte_at(s, TYPE);
+    let max = frame::word_at(s, MAXIMUM);
+    let present = frame::word_at(s, PRESENT);
+    if value_allowed(result, kind) {
+        return ReplyRead::Value {
+            result,
+            code,
+            kind,
+            max,
+            present,
+        };
+    }
+    ReplyRead::Refused(answer::WRONG_FIELD)
+}
+
+// Returns a Timing reply whose length is right, or 7 for a status that is not allowed.
+fn timing_in(s: &[u8]) -> ReplyRead
+    requires { ⌜ Readable (row.Reply kinds.TimingReply) (now s) ⌝ }
+    ensures { λ r. ⌜ ReplyMeans (now (s .entry)) r (bodyIn replies (row.Reply kinds.TimingReply) (now (s .entry))) ⌝ }
+{
+    let status = frame::byte_at(s, STATUS);
+    let horizontal = frame::word_at(s, HORIZONTAL);
+    let vertical = frame::word_at(s, VERTICAL);
+    if status_allowed(status) {
+        return ReplyRead::Timing {
+            status,
+            horizontal,
+            vertical,
+        };
+    }
+    ReplyRead::Refused(answer::WRONG_FIELD)
+}
+
 // Returns the fields of a body of this kind, whose length is right.
 fn fields(kind: ReplyKind, s: &[u8]) -> ReplyRead
     requires { ⌜ Readable (row.Reply kind) (now s) ⌝ }
     ensures { λ r. ⌜ ReplyMeans (now (s .entry)) r (bodyIn replies (row.Reply kind) (now (s .entry))) ⌝ }
 {
     match kind {
-        ReplyKind::Value => {
-            let result = frame::byte_at(s, RESULT);
-            let code = frame::byte_at(s, CODE);
-            let kind = frame::byte_at(s, TYPE);
-            let max = frame::word_at(s, MAXIMUM);
-            let present = frame::word_at(s, PRESENT);
-            if value_allowed(result, kind) {
-                return ReplyRead::Value(result, code, kind, max, present);
-            }
-            ReplyRead::Refused(answer::WRONG_FIELD)
-        }
-        ReplyKind::TimingReply => {
-            let status = frame::byte_at(s, STATUS);
-            let horizontal = frame::word_at(s, HORIZONTAL);
-            let vertical = frame::word_at(s, VERTICAL);
-            if status_allowed(status) {
-                return ReplyRead::Timing(status, horizontal, vertical);
-            }
-            ReplyRead::Refused(answer::WRONG_FIELD)
-        }
+        ReplyKind::Value => value_in(s),
+        ReplyKind::TimingReply => timing_in(s),
         ReplyKind::TextFragment => {
             let offset = TextOffset(frame::word_at(s, OFFSET));
             let len = frame::body_length(s) - 3;
-            ReplyRead::TextFragment(offset, DATA, len)
+            ReplyRead::TextFragment {
+                offset,
+                at: DATA,
+                len,
+            }
         }
         ReplyKind::TableFragment => {
             let offset = TextOffset(frame::word_at(s, OFFSET));
             let len = frame::body_length(s) - 3;
-            ReplyRead::TableFragment(offset, DATA, len)
+            ReplyRead::TableFragment {
+                offset,
+                at: DATA,
+                len,
+            }
         }
     }
 }

@@ -32,18 +32,29 @@ fn fields(kind: RequestKind, s: &[u8]) -> RequestRead
 {
     match kind {
         RequestKind::Get => RequestRead::Get(frame::byte_at(s, CODE)),
-        RequestKind::Set => RequestRead::Set(frame::byte_at(s, CODE), frame::word_at(s, VALUE)),
+        RequestKind::Set => {
+            let code = frame::byte_at(s, CODE);
+            let value = frame::word_at(s, VALUE);
+            RequestRead::Set { code, value }
+        }
         RequestKind::Timing => RequestRead::Timing,
         RequestKind::Save => RequestRead::Save,
         RequestKind::Text => RequestRead::Text(TextOffset(frame::word_at(s, TEXT_OFFSET))),
         RequestKind::TableRead => {
             let offset = TextOffset(frame::word_at(s, TABLE_OFFSET));
-            RequestRead::TableRead(frame::byte_at(s, CODE), offset)
+            let code = frame::byte_at(s, CODE);
+            RequestRead::TableRead { code, offset }
         }
         RequestKind::TableWrite => {
             let offset = TextOffset(frame::word_at(s, TABLE_OFFSET));
             let len = frame::body_length(s) - 4;
-            RequestRead::TableWrite(frame::byte_at(s, CODE), offset, DATA, len)
+            let code = frame::byte_at(s, CODE);
+            RequestRead::TableWrite {
+                code,
+                offset,
+                at: DATA,
+                len,
+            }
         }
     }
 }

@@ -39,13 +39,13 @@ fn of_kind(kind: TextKind, found: ReplyRead) -> FragmentRead
     ensures { λ r. ⌜ r ≡ ofKind kind found ⌝ }
 {
     match found {
-        ReplyRead::Value(_, _, _, _, _) => FragmentRead::Refused(answer::NOT_WANTED),
-        ReplyRead::Timing(_, _, _) => FragmentRead::Refused(answer::NOT_WANTED),
-        ReplyRead::TextFragment(offset, at, len) => match kind {
+        ReplyRead::Value { .. } => FragmentRead::Refused(answer::NOT_WANTED),
+        ReplyRead::Timing { .. } => FragmentRead::Refused(answer::NOT_WANTED),
+        ReplyRead::TextFragment { offset, at, len } => match kind {
             TextKind::Capabilities => FragmentRead::Found(offset, at, len),
             TextKind::Table => FragmentRead::Refused(answer::NOT_WANTED),
         },
-        ReplyRead::TableFragment(offset, at, len) => match kind {
+        ReplyRead::TableFragment { offset, at, len } => match kind {
             TextKind::Capabilities => FragmentRead::Refused(answer::NOT_WANTED),
             TextKind::Table => FragmentRead::Found(offset, at, len),
         },

@@ -54,12 +54,12 @@ pub(crate) fn asked(request: Frame) -> usize {
     let bytes = request.bytes;
     match read_request(TO_DISPLAY, line::front(&bytes, request.len)) {
         RequestRead::Get(_) => 0,
-        RequestRead::Set(_, _) => 0,
+        RequestRead::Set { .. } => 0,
         RequestRead::Timing => 0,
         RequestRead::Save => 0,
         RequestRead::Text(q) => q.0 as usize,
-        RequestRead::TableRead(_, q) => q.0 as usize,
-        RequestRead::TableWrite(_, _, _, _) => 0,
+        RequestRead::TableRead { offset, .. } => offset.0 as usize,
+        RequestRead::TableWrite { .. } => 0,
         RequestRead::Refused(_) => 0,
     }
 }

@@ -23,23 +23,38 @@ fn refused(number: u8) -> Reading {
 
 fn of_request(read: RequestRead) -> Reading {
     match read {
-        RequestRead::Get(c) => message(0x01, c, 0, 0, 0),
-        RequestRead::Set(c, v) => message(0x03, c, v, 0, 0),
+        RequestRead::Get(code) => message(0x01, code, 0, 0, 0),
+        RequestRead::Set { code, value } => message(0x03, code, value, 0, 0),
         RequestRead::Timing => message(0x07, 0, 0, 0, 0),
         RequestRead::Save => message(0x0C, 0, 0, 0, 0),
-        RequestRead::Text(o) => message(0xF3, 0, o.0, 0, 0),
-        RequestRead::TableRead(c, o) => message(0xE2, c, o.0, 0, 0),
-        RequestRead::TableWrite(c, o, at, len) => message(0xE7, c, o.0, at.0, len),
+        RequestRead::Text(offset) => message(0xF3, 0, offset.0, 0, 0),
+        RequestRead::TableRead { code, offset } => message(0xE2, code, offset.0, 0, 0),
+        RequestRead::TableWrite {
+            code,
+            offset,
+            at,
+            len,
+        } => message(0xE7, code, offset.0, at.0, len),
         RequestRead::Refused(refusal) => refused(refusal),
     }
 }
 
 fn of_reply(read: ReplyRead) -> Reading {
     match read {
-        ReplyRead::Value(r, c, k, m, p) => Reading(0, Fields(0x02, r, c, k, m, p), 0, 0),
-        ReplyRead::Timing(a, h, v) => Reading(0, Fields(0x4E, a, 0, 0, h, v), 0, 0),
-        ReplyRead::TextFragment(o, at, len) => message(0xE3, 0, o.0, at.0, len),
-        ReplyRead::TableFragment(o, at, len) => message(0xE4, 0, o.0, at.0, len),
+        ReplyRead::Value {
+            result,
+            code,
+            kind,
+            max,
+            present,
+        } => Reading(0, Fields(0x02, result, code, kind, max, present), 0, 0),
+        ReplyRead::Timing {
+            status,
+            horizontal,
+            vertical,
+        } => Reading(0, Fields(0x4E, status, 0, 0, horizontal, vertical), 0, 0),
+        ReplyRead::TextFragment { offset, at, len } => message(0xE3, 0, offset.0, at.0, len),
+        ReplyRead::TableFragment { offset, at, len } => message(0xE4, 0, offset.0, at.0, len),
         ReplyRead::Refused(refusal) => refused(refusal),
     }
 }

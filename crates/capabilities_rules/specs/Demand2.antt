@@ -1,4 +1,5 @@
--- Demand 2, its last sentence: "A capability text is accepted exactly when the papers' grammar, depth, length and room hold, with the one tree it has."
+-- Demand 2, its last sentence: "A capability text is accepted exactly when the papers' grammar, depth, length and
+-- room hold, with the one tree it has."
 -- Said of any reader's promise, so that wrong readers can be refuted. Its numbers are the papers' own.
 use Prim.Native.Nat.{ℕ, min}
 use mathlib.Core.Path.{_≡_}

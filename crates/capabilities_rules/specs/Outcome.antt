@@ -13,7 +13,8 @@ use Rattle.capabilities_rules.specs.Kinds.{Enter, Leave, Begin, Extend, 
 use Rattle.capabilities_rules.specs.declared.Reading.{Reading}
 use Rattle.capabilities_rules.specs.declared.Reading.the-variants.{Accepted, Refused}
 
--- what a reading stands for in document 01's words: an answer number, how many nodes, and the place; 0 where it has none
+-- what a reading stands for in document 01's words: an answer number, the number of nodes, and the place;
+-- 0 where it has none
 pub record Told : Type 0 where
   pub number : ℕ
   pub nodes : ℕ

@@ -1,6 +1,7 @@
--- Document 01: "The first place wins: 13 where no continuation could be accepted with depth, length and room unlimited (the end if cut
--- short), else 15 at a ninth "(", 14 at a word with no node left." Said of the bytes before a position and the kinds of bytes, without the machine;
--- its numbers are the papers' own, and no definition of ours is named for them.
+-- Document 01: "The first place wins: 13 where no continuation could be accepted with depth, length and room unlimited
+-- (the end if cut short), else 15 at a ninth "(", 14 at a word with no node left."
+-- Said of the bytes before a position and the kinds of bytes, without the machine. Its numbers are the papers' own:
+-- none is named by a definition that it judges.
 use Prim.Native.Nat.{ℕ, suc, _+_, _-_, _≤_, _<_}
 use mathlib.Core.Path.{_≡_}
 use mathlib.Core.Bool.{Bool, false, cond}

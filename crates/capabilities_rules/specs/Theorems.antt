@@ -21,7 +21,8 @@ pub record Theorems : Type 0 where
   pub unique : (s : List ℕ) (xs ys : Items) → Text xs s → Text ys s → xs ≡ ys
   -- .. and its nodes are those that the machine makes
   pub noded : (s : List ℕ) (xs : Items) → Text xs s → nodesOf s ≡ nodesFrom 65535 0 xs
-  -- "A word is a longest run": each word is one, and there are as many words as places where a run begins, so that each run is a word
+  -- "A word is a longest run": each word is one, and there are as many words as places where a run begins,
+  -- so that each run is a word
   pub longest : (s : List ℕ) (xs : Items) → Text xs s → EachWord (LongestRun s) xs
   pub runs : (s : List ℕ) (xs : Items) → Text xs s → wordsIn false s ≡ size xs
   -- a refusal has its number and its position by the rule, and nothing is refused before it ..

@@ -1,4 +1,5 @@
--- Document 01: "A word is a longest run of bytes 21 to 7E other than the two brackets". Said of the string's bytes, without the grammar.
+-- Document 01: "A word is a longest run of bytes 21 to 7E other than the two brackets".
+-- Said of the string's bytes, without the grammar.
 use Prim.Native.Nat.{ℕ}
 use mathlib.Core.Path.{_≡_}
 use mathlib.Core.List.{List, [], _∷_, _++_}

@@ -219,7 +219,8 @@ fn fill(out: &mut [u8], from: usize, to: usize, first: u8, second: u8) {
     }
 }
 
-// Writes groups within each other, a word before each, that open up to the place `middle` and close up to `end`: (a(a(a)))
+// Writes groups within each other, a word before each: (a(a(a))).
+// They open up to the place `middle` and close up to `end`.
 fn nested(text: &mut [u8], middle: usize, end: usize) {
     fill(text, 0, middle, b'(', b'a');
     fill(text, middle, end, b')', b')');

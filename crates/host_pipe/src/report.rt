@@ -12,7 +12,7 @@ const TO: i32 = STDERR_FILENO;
 
 // Writes that a record which should be taken is not, and what to do.
 fn refused(answer: u8) {
-    show::text(TO, b" is a refusal: ");
+    show::text(TO, b" is refused: ");
     show::answer::meaning(TO, answer);
     show::text(
         TO,

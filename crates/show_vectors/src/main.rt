@@ -1,5 +1,5 @@
-// Writes what the programs write for people, so that each line is compared: the meaning of every answer number and of numbers
-// that the papers do not have, a tree, and refused capabilities strings with why they are refused.
+// Writes what the programs write for people, so that each line is compared: the meanings of the answer numbers, and of
+// numbers that the papers do not have; a tree; and refused capabilities strings with why they are refused.
 use libc::STDOUT_FILENO;
 
 const TO: i32 = STDOUT_FILENO;

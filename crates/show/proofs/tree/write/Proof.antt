@@ -1,4 +1,5 @@
--- `show::tree::write` answers whether the string is accepted: the number of its reading is 0, or a refusal's, which is not.
+-- `show::tree::write` answers whether the string is accepted: the number of its reading is 0,
+-- or a refusal's, which is not.
 -- Assumes nothing.
 use Prim.Native.Nat.{ℕ}
 use mathlib.Core.Path.{_≡_, sym, ap, _∙_}

@@ -5,10 +5,10 @@ use Rattle.day.proofs.day.Statement.{statement}
 use Rattle.day.proofs.day.Tie as tie
 
 abbrev Inv-loop : tie.InvT-loop
-Inv-loop text list one₀ two₀ task₀ one two task = task ≤ 5
+Inv-loop list one₀ two₀ task₀ one two task = task ≤ 5
 
 abbrev μ-loop : tie.MeasureT-loop
-μ-loop text list one₀ two₀ task₀ one two task = 5 - task
+μ-loop list one₀ two₀ task₀ one two task = 5 - task
 
 opening-requires : tie.Need-opening-requires Inv-loop μ-loop
 opening-requires c κs = search needs

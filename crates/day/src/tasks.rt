@@ -1,0 +1,121 @@
+// The tasks of the day, each with one display.
+use crate::site;
+use crate::site::Site;
+use day_host::actions::Action;
+use day_host::declared::FULL;
+use day_host::reading;
+use day_host::reading::Reading;
+use day_host::texts;
+use day_host::trial;
+use day_host::trial::Left;
+use day_host::trial::Profile;
+use day_host::writes;
+use day_report::messages::BRIGHTNESS;
+use day_report::messages::DEGAUSS;
+use day_report::messages::INPUT;
+use message_rules::TextKind;
+use message_rules::answer;
+
+// ---- 05:10, the call list
+
+// Returns the site with message k of the list written.
+fn write(mut s: Site, list: &[u8], k: usize) -> Site {
+    s = site::deliver(s, writes::message(list, k));
+    site::also(s, s.answer == answer::DONE)
+}
+
+// Returns the site whose table should be the list, after this many messages.
+fn compared(s: Site, list: &[u8], sent: usize) -> Site {
+    let table = s.table;
+    site::also(s, writes::judged(list, table, site::stored(s), sent))
+}
+
+// Returns the site with the call list written.
+pub(crate) fn write_list(mut s: Site, list: &[u8]) -> Site {
+    let mut k: usize = 0;
+    while k < writes::MESSAGES {
+        s = write(s, list, k);
+        k += 1;
+    }
+    compared(s, list, k)
+}
+
+// ---- 05:30, brightness and input
+
+// Returns the site after brightness, with a value that is refused; input; and the code that acts once.
+pub(crate) fn adjust(mut s: Site) -> Site {
+    s = site::act(s, Action::Set(BRIGHTNESS, 70, answer::DONE));
+    s = site::act(
+        s,
+        Action::Set(BRIGHTNESS, FULL + 1, answer::VALUE_TOO_LARGE),
+    );
+    s = site::act(s, Action::Get(BRIGHTNESS, 70));
+    s = site::act(s, Action::Set(INPUT, 15, answer::DONE));
+    site::act(s, Action::Set(DEGAUSS, 1, answer::DONE))
+}
+
+// ---- 06:00 and 12:00, the texts over the line
+
+// Returns the site after a transfer, which should have come to these bytes.
+fn closed(mut s: Site, r: Reading, number: u64, wanted: &[u8]) -> Site {
+    let line = r.line;
+    s.line = line;
+    site::also(s, reading::judged(r, number, wanted))
+}
+
+// Returns the site after a text was read, which should come to these bytes.
+fn read(kind: TextKind, mut s: Site, number: u64, wanted: &[u8]) -> Site {
+    let line = s.line;
+    let mut r = reading::begin(kind, number, line);
+    let mut left = reading::BUDGET;
+    while left > 0 {
+        s = site::deliver(s, reading::asked(r));
+        let reply = s.reply;
+        r = reading::hear(r, reply);
+        if reading::goes_on(r) {
+            left -= 1;
+        } else {
+            left = 0;
+        }
+    }
+    closed(s, r, number, wanted)
+}
+
+// Returns the site after the call list was read back.
+pub(crate) fn read_list(s: Site, number: u64, list: &[u8]) -> Site {
+    read(TextKind::Table, s, number, list)
+}
+
+// Returns the site after the capabilities string was read.
+pub(crate) fn read_capabilities(s: Site, number: u64) -> Site {
+    let text = texts::capabilities();
+    read(TextKind::Capabilities, s, number, &text)
+}
+
+// ---- 18:30, dusk
+
+// Returns the site with the settings that a load left.
+fn settled(mut s: Site, l: Left) -> Site {
+    let mut d = s.display;
+    let settings = l.settings;
+    d.settings = settings;
+    s.display = d;
+    site::also(s, l.good)
+}
+
+// Returns the site after the profile was tried: damaged, and over a change.
+fn try_profile(mut s: Site, p: Profile) -> Site {
+    s = settled(s, trial::damaged(s.display.settings, p));
+    s = site::act(s, Action::Set(BRIGHTNESS, 20, answer::DONE));
+    s = settled(s, trial::loaded(s.display.settings, p));
+    site::act(s, Action::Get(BRIGHTNESS, 70))
+}
+
+// Returns the site after its settings were saved, its profile was written and tried, and its list was cleared.
+pub(crate) fn close(mut s: Site, number: u64) -> Site {
+    s = site::act(s, Action::Save);
+    let p = trial::written(s.display.settings);
+    s = site::also(s, trial::told(p, number));
+    s = try_profile(s, p);
+    site::act(s, Action::Clear)
+}

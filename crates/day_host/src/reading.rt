@@ -1,0 +1,164 @@
+// 06:00 and 12:00: a host reads a text of a display over the line, fragment by fragment, and asks again where the line spoils an exchange.
+use crate::requests;
+use day_line::Fate;
+use day_line::Frame;
+use day_line::Line;
+use day_line::tally;
+use day_line::tally::Tally;
+use day_report::exchanges;
+use message_rules::TextKind;
+use message_rules::answer;
+use message_rules::limits::LONGEST_TEXT;
+use show::part::front;
+use transfer_rules::State;
+use transfer_rules::Transfer;
+
+// How many exchanges a transfer may take.
+pub const BUDGET: usize = 1500;
+
+// How many exchanges are shown in full.
+const SHOWN: u16 = 8;
+
+// A transfer under way, the line that it goes over, and how many of its exchanges are shown.
+pub struct Reading {
+    transfer: Transfer,
+    pub line: Line,
+    buffer: [u8; LONGEST_TEXT],
+    tally: Tally,
+    shown: u16,
+}
+
+// Returns how many exchanges are shown: of the first display's list the first ones, below their heads.
+fn shown(kind: TextKind, number: u64) -> u16 {
+    match kind {
+        TextKind::Capabilities => 0,
+        TextKind::Table => {
+            if number == 1 {
+                exchanges::heads();
+                return SHOWN;
+            }
+            0
+        }
+    }
+}
+
+// Returns a transfer before its first exchange.
+pub fn begin(kind: TextKind, number: u64, line: Line) -> Reading {
+    let buffer = [0u8; LONGEST_TEXT];
+    let begun = transfer::begin(kind, &buffer, BUDGET);
+    let transfer = begun.transfer;
+    Reading {
+        transfer: transfer,
+        line: line,
+        buffer: buffer,
+        tally: tally::none(),
+        shown: shown(kind, number),
+    }
+}
+
+// Returns what arrives of the next request.
+pub fn asked(r: Reading) -> Frame {
+    let t = r.transfer;
+    day_line::heard(day_line::draw(r.line.seed), requests::fragment(t))
+}
+
+// Returns the reading with one more exchange counted, which began at this offset. It is told where it is among those that are shown.
+fn counted(mut r: Reading, fate: Fate, from: u16, came: usize, answer: u8) -> Reading {
+    let t = r.transfer;
+    let before = r.tally;
+    let tally = tally::tallied(before, fate, answer == answer::DONE);
+    r.tally = tally;
+    if t.count <= r.shown {
+        exchanges::exchange(t.count, from, fate, came, t.reached.0, answer);
+    }
+    r
+}
+
+// Returns the reading after these bytes came.
+fn received(mut r: Reading, fate: Fate, came: Frame) -> Reading {
+    let before = r.transfer;
+    let bytes = came.bytes;
+    let mut buffer = r.buffer;
+    let received = transfer::receive(before, &mut buffer, front(&bytes, came.len));
+    let after = received.transfer;
+    r.transfer = after;
+    r.buffer = buffer;
+    counted(r, fate, before.reached.0, came.len, received.answer)
+}
+
+// Returns the reading after the display's reply to what was asked, as far as the line lets it come.
+pub fn hear(mut r: Reading, reply: Frame) -> Reading {
+    let line = r.line;
+    let fate = day_line::draw(line.seed);
+    let came = day_line::came(line, fate, reply);
+    let after = day_line::after(line, came);
+    r.line = after;
+    received(r, fate, came)
+}
+
+// Returns whether a transfer goes on.
+fn runs(t: Transfer) -> bool {
+    let state = t.state;
+    match state {
+        State::Running => true,
+        State::Done => false,
+        State::Exhausted => false,
+        State::Overflowed => false,
+    }
+}
+
+// Returns whether a transfer closed well.
+fn closed(t: Transfer) -> bool {
+    let state = t.state;
+    match state {
+        State::Running => false,
+        State::Done => true,
+        State::Exhausted => false,
+        State::Overflowed => false,
+    }
+}
+
+// Returns whether there is more to ask.
+pub fn goes_on(r: Reading) -> bool {
+    let t = r.transfer;
+    runs(t)
+}
+
+// Returns whether a transfer closed well with every exchange accounted for, and whether it was the same as what was written. It is told.
+fn closed_well(t: Transfer, tally: Tally, same: bool) -> bool {
+    exchanges::transfer(tally, t.count, t.reached.0, same);
+    if closed(t) {
+        if same {
+            return tally::all_told(tally, t.count);
+        }
+    }
+    false
+}
+
+// Returns whether the tree of a text that was read is accepted. It is the same of both displays, and is shown once; a list has none.
+fn tree(kind: TextKind, number: u64, text: &[u8]) -> bool {
+    match kind {
+        TextKind::Capabilities => {
+            if number == 1 {
+                return exchanges::tree(text);
+            }
+            true
+        }
+        TextKind::Table => true,
+    }
+}
+
+// Returns whether a transfer came to the bytes that are wanted, and went as it should.
+pub fn judged(r: Reading, number: u64, wanted: &[u8]) -> bool {
+    let t = r.transfer;
+    let kind = t.kind;
+    let tally = r.tally;
+    let buffer = r.buffer;
+    let text = front(&buffer, t.reached.0 as usize);
+    let good = closed_well(t, tally, check::same(wanted, text));
+    let accepted = tree(kind, number, text);
+    if good {
+        return accepted;
+    }
+    false
+}

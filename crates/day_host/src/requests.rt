@@ -1,0 +1,56 @@
+// The requests that the hosts send.
+use day_line::Frame;
+use message_builder::Built;
+use message_builder::request;
+use message_rules::TABLE_CODE;
+use message_rules::TO_DISPLAY;
+use message_rules::TextOffset;
+use message_rules::limits::OUTPUT_ROOM;
+use transfer_rules::Transfer;
+
+// Returns the message that was built in front of these bytes, or none.
+fn framed(bytes: [u8; OUTPUT_ROOM], built: Built) -> Frame {
+    let len = match built {
+        Built::Done(n) => n,
+        Built::Refused(_) => 0,
+    };
+    Frame {
+        bytes: bytes,
+        len: len,
+    }
+}
+
+pub(crate) fn get(code: u8) -> Frame {
+    let mut m = [0u8; OUTPUT_ROOM];
+    let built = request::build_get(TO_DISPLAY, code, &mut m);
+    framed(m, built)
+}
+
+pub(crate) fn set(code: u8, value: u16) -> Frame {
+    let mut m = [0u8; OUTPUT_ROOM];
+    let built = request::build_set(TO_DISPLAY, code, value, &mut m);
+    framed(m, built)
+}
+
+pub(crate) fn save() -> Frame {
+    let mut m = [0u8; OUTPUT_ROOM];
+    let built = request::build_save(TO_DISPLAY, &mut m);
+    framed(m, built)
+}
+
+// Returns a Table write of these bytes.
+pub(crate) fn write(at: u16, data: &[u8]) -> Frame {
+    let mut m = [0u8; OUTPUT_ROOM];
+    let built = request::build_table_write(TO_DISPLAY, TABLE_CODE, TextOffset(at), data, &mut m);
+    framed(m, built)
+}
+
+// Returns what a transfer asks for next.
+pub(crate) fn fragment(t: Transfer) -> Frame {
+    let mut m = [0u8; OUTPUT_ROOM];
+    let asked = transfer::request(t, &mut m);
+    Frame {
+        bytes: m,
+        len: asked.len,
+    }
+}

@@ -1,0 +1,49 @@
+// The two texts of every display: its capabilities string, and the call list of 85 records of a token and a household.
+
+pub const TEXT_SIZE: usize = 53;
+
+// The bytes of a record: its length (10), its kind (32), token and household, the low byte first.
+const RECORD: usize = 12;
+
+const RECORDS: usize = 85;
+
+pub const LIST_SIZE: usize = 1020;
+
+// The tokens rise by one, the households come in a mixed order, each once.
+const FIRST_TOKEN: usize = 101;
+
+const FIRST_HOUSEHOLD: usize = 2000;
+
+const HOUSEHOLD_STEP: usize = 31;
+
+// Returns the capabilities string.
+pub fn capabilities() -> [u8; TEXT_SIZE] {
+    *b"(prot(monitor)vcp(01 10 12 60(0F 11)F4)mccs_ver(2.2))"
+}
+
+// Returns a byte of a record.
+fn byte_of(record: usize, field: usize) -> u8 {
+    let r = record % RECORDS;
+    let token = FIRST_TOKEN + r;
+    let household = FIRST_HOUSEHOLD + r * HOUSEHOLD_STEP % RECORDS;
+    match field {
+        0 => 10,
+        2 => 32,
+        4 => (token % 256) as u8,
+        5 => (token / 256 % 256) as u8,
+        8 => (household % 256) as u8,
+        9 => (household / 256 % 256) as u8,
+        _ => 0,
+    }
+}
+
+// Returns the call list.
+pub fn call_list() -> [u8; LIST_SIZE] {
+    let mut list = [0u8; LIST_SIZE];
+    let mut i: usize = 0;
+    while i < LIST_SIZE {
+        list[i] = byte_of(i / RECORD, i % RECORD);
+        i += 1;
+    }
+    list
+}

@@ -1,0 +1,77 @@
+// 18:30: a settings profile is written, and loaded twice: damaged, which is refused, and as it was written.
+use day_report::profiles;
+use message_rules::answer;
+use profile_rules::Loaded;
+use profile_rules::RECORD_SIZE;
+use settings::Settings;
+
+// Room for three records: brightness, contrast and input.
+const PROFILE_ROOM: usize = RECORD_SIZE * 3;
+
+// The byte of the profile that is damaged: the kind of its second record.
+const DAMAGED: usize = 9;
+
+// A profile as it is written.
+pub struct Profile {
+    bytes: [u8; PROFILE_ROOM],
+    len: usize,
+    answer: u8,
+}
+
+// What a load left: the settings, and whether it was answered as it should be.
+pub struct Left {
+    pub settings: Settings,
+    pub good: bool,
+}
+
+// Returns the profile of a display's settings.
+pub fn written(settings: Settings) -> Profile {
+    let mut out = [0u8; PROFILE_ROOM];
+    let written = profile::write(settings, &mut out);
+    Profile {
+        bytes: out,
+        len: written.len,
+        answer: written.answer,
+    }
+}
+
+// Returns whether the profile was written. It is told, of the first display with its records.
+pub fn told(p: Profile, number: u64) -> bool {
+    profiles::size(p.len);
+    if number == 1 {
+        let bytes = p.bytes;
+        profiles::records(&bytes);
+    }
+    p.answer == answer::DONE
+}
+
+// Returns what a load left, which should have this answer and place.
+fn tried(l: Loaded, wanted: u8, place: usize) -> Left {
+    let settings = l.settings;
+    let good = if l.answer == wanted {
+        l.position.0 == place
+    } else {
+        false
+    };
+    Left {
+        settings: settings,
+        good: good,
+    }
+}
+
+// Returns what loading a damaged copy left: it is refused at the damaged record.
+pub fn damaged(settings: Settings, p: Profile) -> Left {
+    let mut bytes = p.bytes;
+    bytes[DAMAGED] = 2;
+    let l = profile::load(settings, &bytes);
+    profiles::loaded(b"    a damaged copy is loaded: ", l.answer, l.position.0);
+    tried(l, answer::BROKEN_PROFILE, RECORD_SIZE)
+}
+
+// Returns what loading the profile left.
+pub fn loaded(settings: Settings, p: Profile) -> Left {
+    let bytes = p.bytes;
+    let l = profile::load(settings, &bytes);
+    profiles::loaded(b"    the profile is loaded: ", l.answer, l.position.0);
+    tried(l, answer::DONE, PROFILE_ROOM)
+}

@@ -1,0 +1,78 @@
+// What came of the messages that the tent sends.
+use crate::OUT;
+use crate::line;
+use show::part::behind;
+use show::part::front;
+
+// The codes of the day, in the order of their names below.
+pub const BRIGHTNESS: u8 = 0x10;
+
+pub const CONTRAST: u8 = 0x12;
+
+pub const INPUT: u8 = 0x60;
+
+// A momentary code: it acts once and keeps no value.
+pub const DEGAUSS: u8 = 0x01;
+
+// The width of a code's name, with the spaces behind it.
+const NAME: usize = 12;
+
+// Returns where a code's name stands.
+fn column(code: u8) -> usize {
+    match code {
+        BRIGHTNESS => 0,
+        CONTRAST => NAME,
+        INPUT => NAME * 2,
+        _ => NAME * 3,
+    }
+}
+
+// A code by its name, and a value of it.
+fn value_of(what: &[u8], code: u8, value: u16) {
+    let names = b"brightness  contrast    input       degauss     ";
+    show::text(OUT, what);
+    show::text(OUT, front(behind(names, column(code)), NAME));
+    show::number(OUT, value as u64, 3);
+}
+
+// A display's start, and the declaring of its codes.
+pub fn started(number: u64, size: u16, started: u8, declared: u8) {
+    line(
+        b"  display #, which sends fragments of # bytes",
+        &[number, size as u64],
+    );
+    show::answered(OUT, b": ", started);
+    show::answered(
+        OUT,
+        b"    brightness (10), contrast (12), input (60), degauss (01): ",
+        declared,
+    );
+}
+
+// The writing of the call list.
+pub fn written(writes: usize, messages: u64, stored: usize, same: bool) {
+    line(
+        b"    # writes, every third delivered twice: # messages; # bytes stored; ",
+        &[writes as u64, messages, stored as u64],
+    );
+    show::compared(OUT, b"beside the tent's list: ", same);
+}
+
+pub fn set(code: u8, value: u16, answer: u8) {
+    value_of(b"    Set ", code, value);
+    show::answered(OUT, b":  ", answer);
+}
+
+pub fn get(code: u8, value: u16) {
+    value_of(b"    Get ", code, value);
+    show::text(OUT, b"\n");
+}
+
+pub fn saved(answer: u8) {
+    show::answered(OUT, b"    Save: ", answer);
+}
+
+pub fn cleared(left: usize, answer: u8) {
+    line(b"    the list is cleared, # bytes are left", &[left as u64]);
+    show::answered(OUT, b": ", answer);
+}

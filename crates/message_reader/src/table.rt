@@ -99,7 +99,6 @@ fn unknown_reply() -> ReplyRow
 }
 
 // Returns the row of a request by its command number, for a body of n bytes. No request has a plain length byte.
-// The length is judged in each arm, so that the compiler goes straight on to the fields of that kind.
 pub(crate) fn request_row(number: u8, n: usize) -> RequestRow
     ensures { λ r. ⌜ r ≡ requestRow (rowOf Request number) n ⌝ }
 {

@@ -1,5 +1,6 @@
--- `capabilities::check_group` meets its contract. It calls itself with a level less. The loop's invariant: judging on from the group's
--- start is judging on from `at`, where no space stands. The measure is what is left of the string.
+-- `capabilities::check_group` meets its contract. It calls itself with a level less.
+-- The loop's invariant: judging on from the loop's first position, past the spaces at the list's front, is judging on
+-- from `at`, where no space stands. The measure is what is left of the string.
 use Prim.Native.Nat.{ℕ, _-_, _<_}
 use mathlib.Core.Path.{_≡_, sym, _∙_}
 use mathlib.Core.Bool.{true}

@@ -1,5 +1,6 @@
--- `capabilities::fill_group` meets its contract. It calls itself with a level less. The loop's invariant: what was to be stored at the
--- group's start is what is still to be stored from `at` on, and the string is accepted from there. The measure is what is left of the string.
+-- `capabilities::fill_group` meets its contract. It calls itself with a level less.
+-- The loop's invariant: what was to be stored at the loop's first position, past the spaces at the list's front, is what
+-- is still to be stored from `at` on, and the string is accepted from there. The measure is what is left of the string.
 use Prim.Native.Nat.{ℕ, _+_, _-_, _<_, _≤_}
 use mathlib.Core.Path.{_≡_, sym, ap, _∙_, subst}
 use mathlib.Core.Bool.{Bool, cond}

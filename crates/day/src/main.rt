@@ -22,6 +22,7 @@ fn perform(task: usize, number: u64, s: Site, list: &[u8]) -> Site {
     }
 }
 
+// Plays the day with two displays: one sends fragments of 32 bytes, the other of 7.
 fn day(list: &[u8]) {
     day_report::opening();
     let mut one = starting::start(1, 32, 26302);

@@ -44,6 +44,7 @@ fn done(answer: u8, number: usize, wanted: usize) -> bool {
     false
 }
 
+// Returns whether a Get found the value that is wanted. It is told.
 fn got(code: u8, wanted: u16, answer: u8, reply: Frame) -> bool {
     let value = value_of(reply);
     messages::get(code, value);

@@ -3,6 +3,7 @@
 pub mod actions;
 pub mod declared;
 pub mod reading;
+mod records;
 mod requests;
 pub mod texts;
 pub mod trial;

@@ -5,6 +5,7 @@ use day_line::Frame;
 use day_line::Line;
 use day_line::tally;
 use day_line::tally::Tally;
+use day_report::OUT;
 use day_report::exchanges;
 use message_rules::TextKind;
 use message_rules::answer;
@@ -140,7 +141,7 @@ fn tree(kind: TextKind, number: u64, text: &[u8]) -> bool {
     match kind {
         TextKind::Capabilities => {
             if number == 1 {
-                return exchanges::tree(text);
+                return show::tree::write(OUT, b"      ", text);
             }
             true
         }

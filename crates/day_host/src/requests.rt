@@ -20,18 +20,21 @@ fn framed(bytes: [u8; OUTPUT_ROOM], built: Built) -> Frame {
     }
 }
 
+// Returns a Get of a code.
 pub(crate) fn get(code: u8) -> Frame {
     let mut m = [0u8; OUTPUT_ROOM];
     let built = request::build_get(TO_DISPLAY, code, &mut m);
     framed(m, built)
 }
 
+// Returns a Set of a code to a value.
 pub(crate) fn set(code: u8, value: u16) -> Frame {
     let mut m = [0u8; OUTPUT_ROOM];
     let built = request::build_set(TO_DISPLAY, code, value, &mut m);
     framed(m, built)
 }
 
+// Returns a Save.
 pub(crate) fn save() -> Frame {
     let mut m = [0u8; OUTPUT_ROOM];
     let built = request::build_save(TO_DISPLAY, &mut m);

@@ -1,5 +1,5 @@
 // 18:30: a settings profile is written, and loaded twice: damaged, which is refused, and as it was written.
-use day_report::profiles;
+use crate::records;
 use message_rules::answer;
 use profile_rules::Loaded;
 use profile_rules::RECORD_SIZE;
@@ -37,10 +37,10 @@ pub fn written(settings: Settings) -> Profile {
 
 // Returns whether the profile was written. It is told, of the first display with its records.
 pub fn told(p: Profile, number: u64) -> bool {
-    profiles::size(p.len);
+    records::size(p.len);
     if number == 1 {
         let bytes = p.bytes;
-        profiles::records(&bytes);
+        records::records(&bytes);
     }
     p.answer == answer::DONE
 }
@@ -64,7 +64,7 @@ pub fn damaged(settings: Settings, p: Profile) -> Left {
     let mut bytes = p.bytes;
     bytes[DAMAGED] = 2;
     let l = profile::load(settings, &bytes);
-    profiles::loaded(b"    a damaged copy is loaded: ", l.answer, l.position.0);
+    records::loaded(b"    a damaged copy is loaded: ", l.answer, l.position.0);
     tried(l, answer::BROKEN_PROFILE, RECORD_SIZE)
 }
 
@@ -72,6 +72,6 @@ pub fn damaged(settings: Settings, p: Profile) -> Left {
 pub fn loaded(settings: Settings, p: Profile) -> Left {
     let bytes = p.bytes;
     let l = profile::load(settings, &bytes);
-    profiles::loaded(b"    the profile is loaded: ", l.answer, l.position.0);
+    records::loaded(b"    the profile is loaded: ", l.answer, l.position.0);
     tried(l, answer::DONE, PROFILE_ROOM)
 }

@@ -21,6 +21,7 @@ pub fn none() -> Tally {
     }
 }
 
+// Returns a sum, which wraps at 2 to the 64.
 fn sum(a: u64, b: u64) -> u64 {
     std::num::wrapping_add_u64(a, b)
 }

@@ -21,13 +21,14 @@ fn column(fate: Fate) -> usize {
     }
 }
 
+// Writes the name of a fate that stands here.
 fn name(at: usize) {
     let names =
         b"good              request lost      reply lost        reply cut         bit flipped       last reply again  ";
     show::text(OUT, front(behind(names, at), NAME));
 }
 
-// The heads of the columns of exchanges that are shown in full.
+// Writes the heads of the columns of exchanges that are shown in full.
 pub fn heads() {
     show::text(
         OUT,
@@ -35,7 +36,7 @@ pub fn heads() {
     );
 }
 
-// An exchange in full: the offset asked for, what the line did, how many bytes came, and the offset afterwards.
+// Writes an exchange in full: the offset asked for, what the line did, how many bytes came, and the offset afterwards.
 pub fn exchange(number: u16, from: u16, fate: Fate, came: usize, to: u16, answer: u8) {
     show::number(OUT, number as u64, 7);
     show::number(OUT, from as u64, 8);
@@ -46,7 +47,7 @@ pub fn exchange(number: u16, from: u16, fate: Fate, came: usize, to: u16, answer
     show::answered(OUT, b"   ", answer);
 }
 
-// How the transfer went.
+// Writes how a transfer went.
 pub fn transfer(t: Tally, count: u16, reached: u16, same: bool) {
     line(
         b"    # exchanges: # accepted, the last one the empty end; # lost, # cut, # flipped, # repeated\n    # bytes read; ",
@@ -61,9 +62,4 @@ pub fn transfer(t: Tally, count: u16, reached: u16, same: bool) {
         ],
     );
     show::compared(OUT, b"beside what was written: ", same);
-}
-
-// Returns whether a capabilities string is accepted, whose tree is written.
-pub fn tree(text: &[u8]) -> bool {
-    show::tree::write(OUT, b"      ", text)
 }

@@ -1,13 +1,12 @@
 // What the day writes for people, line by line. No contract can speak of what is written; these functions are proved safe and ending.
 pub mod exchanges;
 pub mod messages;
-pub mod profiles;
 
 use show::part::behind;
 use show::part::front;
 
 // Where the day is told.
-pub(crate) const OUT: i32 = libc::STDOUT_FILENO;
+pub const OUT: i32 = libc::STDOUT_FILENO;
 
 // Returns where the next `#` of a line stands, from this place on, or a place behind the line.
 fn mark(line: &[u8], from: usize) -> usize {
@@ -22,7 +21,7 @@ fn mark(line: &[u8], from: usize) -> usize {
 }
 
 // Writes a line, with the numbers where each `#` stands.
-pub(crate) fn line(line: &[u8], numbers: &[u64]) {
+pub fn line(line: &[u8], numbers: &[u64]) {
     let mut at = 0;
     for k in 0..numbers.len() {
         let next = mark(line, at);
@@ -33,11 +32,12 @@ pub(crate) fn line(line: &[u8], numbers: &[u64]) {
     show::text(OUT, behind(line, at));
 }
 
+// Writes how the day begins.
 pub fn opening() {
     show::text(OUT, b"05:00  the tent starts two displays\n");
 }
 
-// The time of day, and what is done.
+// Writes the time of day, and what is done.
 pub fn heading(task: usize) {
     match task {
         0 => show::text(
@@ -63,11 +63,12 @@ pub fn heading(task: usize) {
     }
 }
 
+// Writes which display it is done with.
 pub fn subheading(number: u64) {
     line(b"  display #\n", &[number]);
 }
 
-// Whether everything held, with both displays.
+// Writes whether everything held, with both displays.
 pub fn verdict(one: bool, two: bool) {
     if one {
         if two {

@@ -27,7 +27,7 @@ fn column(code: u8) -> usize {
     }
 }
 
-// A code by its name, and a value of it.
+// Writes a code by its name, and a value of it.
 fn value_of(what: &[u8], code: u8, value: u16) {
     let names = b"brightness  contrast    input       degauss     ";
     show::text(OUT, what);
@@ -35,7 +35,7 @@ fn value_of(what: &[u8], code: u8, value: u16) {
     show::number(OUT, value as u64, 3);
 }
 
-// A display's start, and the declaring of its codes.
+// Writes what came of a display's start, and the declaring of its codes.
 pub fn started(number: u64, size: u16, started: u8, declared: u8) {
     line(
         b"  display #, which sends fragments of # bytes",
@@ -49,7 +49,7 @@ pub fn started(number: u64, size: u16, started: u8, declared: u8) {
     );
 }
 
-// The writing of the call list.
+// Writes what came of the writing of the call list.
 pub fn written(writes: usize, messages: u64, stored: usize, same: bool) {
     line(
         b"    # writes, every third delivered twice: # messages; # bytes stored; ",
@@ -58,20 +58,24 @@ pub fn written(writes: usize, messages: u64, stored: usize, same: bool) {
     show::compared(OUT, b"beside the tent's list: ", same);
 }
 
+// Writes what came of a Set.
 pub fn set(code: u8, value: u16, answer: u8) {
     value_of(b"    Set ", code, value);
     show::answered(OUT, b":  ", answer);
 }
 
+// Writes the value that a Get found.
 pub fn get(code: u8, value: u16) {
     value_of(b"    Get ", code, value);
     show::text(OUT, b"\n");
 }
 
+// Writes what came of a Save.
 pub fn saved(answer: u8) {
     show::answered(OUT, b"    Save: ", answer);
 }
 
+// Writes how many bytes are left of a list that was cleared.
 pub fn cleared(left: usize, answer: u8) {
     line(b"    the list is cleared, # bytes are left", &[left as u64]);
     show::answered(OUT, b": ", answer);

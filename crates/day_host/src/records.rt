@@ -1,0 +1,51 @@
+// What is told of a settings profile: its records, and what came of loading it.
+use day_report::OUT;
+use day_report::line;
+use message_rules::answer;
+use profile_rules::RECORD_SIZE;
+use show::part::behind;
+use show::part::front;
+
+// Returns a 16-bit word, the low byte first.
+fn word(low: u8, high: u8) -> u64 {
+    low as u64 + high as u64 * 256
+}
+
+// Writes what a record says.
+fn setting(code: u8, value: u64) {
+    show::text(OUT, b"   code ");
+    show::hex(OUT, code);
+    line(b": #\n", &[value]);
+}
+
+// Writes a record of the profile: its bytes, and what they say.
+fn record(r: &[u8]) {
+    if r.len() < RECORD_SIZE {
+        return;
+    }
+    show::text(OUT, b"     ");
+    show::row(OUT, r);
+    setting(r[4], word(r[5], r[6]));
+}
+
+// Writes how many bytes the profile has.
+pub(crate) fn size(len: usize) {
+    line(b"    the profile has # bytes\n", &[len as u64]);
+}
+
+// Writes three records: brightness, contrast and input.
+pub(crate) fn records(profile: &[u8]) {
+    record(front(profile, RECORD_SIZE));
+    record(front(behind(profile, RECORD_SIZE), RECORD_SIZE));
+    record(behind(profile, RECORD_SIZE * 2));
+}
+
+// Writes the answer to a load, with its place where it is refused.
+pub(crate) fn loaded(what: &[u8], answer: u8, place: usize) {
+    show::text(OUT, what);
+    show::answer::meaning(OUT, answer);
+    if answer != answer::DONE {
+        line(b", at byte #", &[place as u64]);
+    }
+    show::text(OUT, b"\n");
+}

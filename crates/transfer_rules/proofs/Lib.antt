@@ -1,8 +1,10 @@
 pub mod Messages
 pub mod Steps
 pub mod Coherent
+pub mod Calls
 pub mod Kept
 pub mod Demand3
 pub mod Coverage
 pub mod Example
 pub mod Refuted
+pub mod RefutedCalls

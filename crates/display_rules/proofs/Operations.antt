@@ -1,4 +1,5 @@
--- The step follows the paper's sentences on the reader's refusals, Get, Set, Save and Timing: theorems of specs/Operations.antt.
+-- The step follows the paper's sentences on the reader's refusals, Get, Set, Save and Timing: theorems of
+-- specs/Operations.antt.
 use mathlib.Core.Path.{_≡_, refl, _∙_}
 use mathlib.Core.Bool.{Bool, true, false, _&&_}
 use mathlib.Core.List.{List, _∷_}

@@ -1,4 +1,5 @@
--- Wrong rules, each against one sentence of "The board", and that the theorems of specs/Operations.antt, Texts.antt and Starts.antt do not hold of them.
+-- Wrong rules, each against one sentence of "The board", and that the theorems of specs/Operations.antt, Texts.antt
+-- and Starts.antt do not hold of them.
 use mathlib.Core.Path.{_≡_, refl, sym, ap, _∙_}
 use mathlib.Core.List.{List, [], _∷_}
 use mathlib.Core.Bool.{true, false, cond}

@@ -1,5 +1,7 @@
--- Document 01, "The board", the operations sentence by sentence: answer numbers, what is kept of each code, and each byte of a reply, in the paper's own numbers.
--- A statement takes the rule for steps as a parameter: proofs/ proves it of Step.antt's, and refutes it of wrong ones. This file has 1, the reader's refusals, Get, Set, Save and Timing.
+-- Document 01, "The board", the operations sentence by sentence: answer numbers, what is kept of each code, and each
+-- byte of a reply, in the paper's own numbers.
+-- A statement takes the rule for steps as a parameter: proofs/ proves it of Step.antt's, and refutes it of wrong
+-- ones. This file has 1, the reader's refusals, Get, Set, Save and Timing.
 use Prim.Native.Nat.{ℕ, _≤_, _<_}
 use mathlib.Core.Path.{_≡_}
 use mathlib.Core.Bool.{true, false}
@@ -17,7 +19,8 @@ use Rattle.display_rules.specs.declared.Found.the-variants.{Nothing}
 
 -- ---- what a step is lent, and what it leaves
 
--- "A step is lent the list's buffer of exactly 1,024 bytes and the text at its starting length", and an output of 38 bytes or more
+-- "A step is lent the list's buffer of exactly 1,024 bytes and the text at its starting length", and an output of 38
+-- bytes or more
 pub record LentRight (d : Display) (lent buffer out : List ℕ) : Type 0 where
   pub text : length lent ≡ d .capabilities .len
   pub table : length buffer ≡ 1024

@@ -1,4 +1,5 @@
--- Document 01, "The board": Table write sentence by sentence, and the numbers and replies of Text and Table read, of any rule for steps.
+-- Document 01, "The board": Table write sentence by sentence, and the numbers and replies of Text and Table read, of
+-- any rule for steps.
 use Prim.Native.Nat.{ℕ, _+_, _≤_, _<_}
 use mathlib.Core.Path.{_≡_}
 use mathlib.Core.List.{List, [], _∷_}

@@ -9,7 +9,8 @@ use message_rules::TextOffset;
 use message_rules::limits::MOST_WRITTEN;
 use message_rules::limits::OUTPUT_ROOM;
 
-// One byte more than a capabilities string may have, than a table's buffer has, and than a reply needs: rows lend these sizes too.
+// One byte more than a capabilities string may have, than a table's buffer has, and than a reply needs: rows lend
+// these sizes too.
 pub(crate) const TEXT_ROOM: usize = 4097;
 
 pub(crate) const TABLE_BUFFER: usize = 1025;
@@ -31,8 +32,8 @@ const READS: usize = 33;
 
 const SIZE: usize = 32;
 
-// `text` is the length of the capabilities string. `handed` says whether the fragment that was handed back is the data of the reply. `good` is whether all
-// rows of a group so far, `rows` of them, were as expected.
+// `text` is the length of the capabilities string. `handed` says whether the fragment that was handed back is the
+// data of the reply. `good` is whether all rows of a group so far, `rows` of them, were as expected.
 pub(crate) struct Bench {
     pub(crate) display: Display,
     pub(crate) text: usize,
@@ -176,7 +177,8 @@ fn carries(b: Bench, data: &[u8]) -> bool {
     b.handed && check::same(data_in(&out, b.len), data)
 }
 
-// Reads a table whole, fragment after fragment, and the empty one behind them. `handed` says whether they were these bytes.
+// Reads a table whole, fragment after fragment, and the empty one behind them. `handed` says whether they were these
+// bytes.
 pub(crate) fn read_whole(mut b: Bench, bytes: &[u8]) -> Bench {
     let mut k: usize = 0;
     while k < READS {

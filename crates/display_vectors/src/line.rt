@@ -3,8 +3,8 @@
 // No digit, or none yet.
 const NO_DIGIT: u8 = 16;
 
-// The pairs so far: how many, how many of them stand in front of the "=", whether there was one, the first digit of a pair that is not whole yet, and whether
-// the line is well formed.
+// The pairs so far: how many, how many of them stand in front of the "=", whether there was one, the first digit of a
+// pair that is not whole yet, and whether the line is well formed.
 pub(crate) struct Row {
     pub(crate) given: usize,
     pub(crate) count: usize,

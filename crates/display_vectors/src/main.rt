@@ -1,4 +1,5 @@
-// Runs the rows of standard input on displays, and writes one line a group. The form of the input stands at its head, in the file stdin.
+// Runs the rows of standard input on displays, and writes one line a group. The form of the input stands at its head,
+// in the file stdin.
 mod bench;
 mod line;
 

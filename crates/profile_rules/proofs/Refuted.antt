@@ -1,5 +1,5 @@
--- Wrong rules for loading, and that the theorem does not hold of them: codes that cannot be written are in the profile, 8 and 9 are swapped, the place is
--- behind the bad record.
+-- Wrong rules for loading, and that the theorem does not hold of them: codes that cannot be written are in the
+-- profile, 8 and 9 are swapped, the place is behind the bad record.
 use mathlib.Core.Path.{_≡_, refl, ap, _∙_}
 use mathlib.Core.Bool.{Bool, true, false, cond, not, _&&_}
 use mathlib.Core.Logic.{inr}

@@ -1,5 +1,6 @@
--- Document 01, "Settings sheet", sentence by sentence: the codes of a profile, the bytes that are written, and how a profile is judged and loaded, in literal
--- bytes and the paper's own numbers. A statement takes the rule as a parameter: proofs/ proves it of Profile.antt's, and refutes it of wrong ones.
+-- Document 01, "Settings sheet", sentence by sentence: the codes of a profile, the bytes that are written, and how a
+-- profile is judged and loaded, in literal bytes and the paper's own numbers. A statement takes the rule as a
+-- parameter: proofs/ proves it of Profile.antt's, and refutes it of wrong ones.
 use Prim.Native.Nat.{ℕ, suc, _+_, _*_, _/_, _%_, _≤_, _<_}
 use mathlib.Core.Path.{_≡_}
 use mathlib.Core.Bool.{true, false}
@@ -33,8 +34,8 @@ CodesAsWritten = (s : Settings) → CodesFrom s 0 (profileCodes s)
 
 -- ---- a record
 
--- "length (2 bytes, little-endian, counting what follows it), kind (2 bytes, little-endian), body. Kind 1: code, saved value (2 bytes, little-endian); so
--- length 5": the bytes of a record, and what follows it
+-- "length (2 bytes, little-endian, counting what follows it), kind (2 bytes, little-endian), body. Kind 1: code,
+-- saved value (2 bytes, little-endian); so length 5": the bytes of a record, and what follows it
 abbrev pub recordThen : (code low high : ℕ) → List ℕ → List ℕ
 recordThen code low high rest = 0x05 ∷ 0x00 ∷ 0x01 ∷ 0x00 ∷ code ∷ low ∷ high ∷ rest
 
@@ -61,7 +62,8 @@ WriteNumbers write = (s : Settings) (cs out : List ℕ) → CodesFrom s 0 cs →
 
 -- ---- loading
 
--- The next codes are cs, and the bytes left start at place `at`: what the paper answers, and the place that it gives. "The first bad record decides".
+-- The next codes are cs, and the bytes left start at place `at`: what the paper answers, and the place that it gives.
+-- "The first bad record decides".
 pub data Judges (s : Settings) : (cs : List ℕ) (at : ℕ) (bytes : List ℕ) (answer place : ℕ) → Type 0 where
   -- a record for each code, and nothing behind the last; the place is then the end
   end : {at : ℕ} → Judges s [] at [] 0 at

@@ -1,6 +1,7 @@
--- Document 01, "The board", on the settings: what a start, declaring, Set and Save come to, by what is kept of each code and in the paper's own numbers.
--- Each statement is of an answer and of the settings afterwards, whatever gave them: proofs/Operations.antt proves it of the rules of Settings.antt, and
--- display_rules states it of a display's start, declaring and steps.
+-- Document 01, "The board", on the settings: what a start, declaring, Set and Save come to, by what is kept of each
+-- code and in the paper's own numbers.
+-- Each statement is of an answer and of the settings afterwards, whatever gave them: proofs/Operations.antt proves it
+-- of the rules of Settings.antt, and display_rules states it of a display's start, declaring and steps.
 use Prim.Native.Nat.{ℕ, _/_, _%_, _≤_, _<_}
 use mathlib.Core.Path.{_≡_}
 use mathlib.Core.Bool.{true, false}
@@ -67,8 +68,8 @@ pub record DeclaredAs (d : Declaration) (e : Entry) : Type 0 where
   pub saved : e .saved ≡ d .present
 
 pub record Declares (s : Settings) (d : Declaration) (answer : ℕ) (after : Settings) : Type 0 where
-  -- "Declaring is refused (18) for F4, a code twice, a type above 1, neither readable nor writable, momentary and not writable, or continuous with present
-  -- above maximum."
+  -- "Declaring is refused (18) for F4, a code twice, a type above 1, neither readable nor writable, momentary and not
+  -- writable, or continuous with present above maximum."
   pub table : d .code ≡ 0xF4 → answer ≡ 18
   pub twice : entryOf s (d .code) .declared ≡ true → answer ≡ 18
   pub kind : 1 < d .kind → answer ≡ 18

@@ -11,9 +11,11 @@ use bench::behind;
 use bench::front;
 use bench::front_mut;
 use bench::octet;
+use display_rules::Changed;
 use libc::STDIN_FILENO;
 use libc::STDOUT_FILENO;
 use settings::Declaration;
+use settings::Settings;
 use settings::Timing;
 
 // One byte more than the longest input.
@@ -79,25 +81,33 @@ fn replied(b: Bench, due: &[u8]) -> Bench {
     count(b, good)
 }
 
-// Starts another display: status, horizontal, vertical, fragment size, length of the capabilities string.
-fn start(mut b: Bench, given: &[u8], due: &[u8]) -> Bench {
+// Returns the display that a row starts: status, horizontal, vertical, fragment size, length of the capabilities string.
+fn started(given: &[u8]) -> Changed {
     let timing = Timing {
         status: octet(given, 0),
         horizontal: word(given, 1),
         vertical: word(given, 3),
     };
-    let n = wide(word(given, 7));
     let bytes = bench::text();
-    let s = display::start(timing, front(&bytes, n), word(given, 5));
+    display::start(timing, front(&bytes, wide(word(given, 7))), word(given, 5))
+}
+
+// Returns the length of its capabilities string; a display that was refused has none.
+fn text_length(answer: u8, given: &[u8]) -> usize {
+    if answer == 0 { wide(word(given, 7)) } else { 0 }
+}
+
+fn start(mut b: Bench, given: &[u8], due: &[u8]) -> Bench {
+    let s = started(given);
     let display = s.display;
     b.display = display;
-    b.text = if s.answer == 0 { n } else { 0 };
+    b.text = text_length(s.answer, given);
     answered(b, s.answer, given, due)
 }
 
-// Declares a code: code, readable, writable, type, continuous, maximum, present.
-fn declare(mut b: Bench, given: &[u8], due: &[u8]) -> Bench {
-    let declaration = Declaration {
+// Returns what a row declares: code, readable, writable, type, continuous, maximum, present.
+fn declaration(given: &[u8]) -> Declaration {
+    Declaration {
         code: octet(given, 0),
         readable: octet(given, 1) != 0,
         writable: octet(given, 2) != 0,
@@ -105,9 +115,12 @@ fn declare(mut b: Bench, given: &[u8], due: &[u8]) -> Bench {
         continuous: octet(given, 4) != 0,
         maximum: word(given, 5),
         present: word(given, 7),
-    };
+    }
+}
+
+fn declare(mut b: Bench, given: &[u8], due: &[u8]) -> Bench {
     let before = b.display;
-    let s = display::declare(before, declaration);
+    let s = display::declare(before, declaration(given));
     let display = s.display;
     b.display = display;
     answered(b, s.answer, given, due)
@@ -124,13 +137,16 @@ fn buffers(b: Bench, given: &[u8], due: &[u8]) -> Bench {
     )
 }
 
-// Writes the profile into an output of this length.
-fn write_profile(b: Bench, given: &[u8], due: &[u8]) -> Bench {
+// Whether the profile is written as it should be into an output of this length.
+fn writes(settings: Settings, room: usize, due: &[u8]) -> bool {
     let mut out = [FILLING; OUT_ROOM];
+    let w = profile::write(settings, front_mut(&mut out, room));
+    w.answer == answer_due(due) && holds(&out, w.len, behind(due, 1))
+}
+
+fn write_profile(b: Bench, given: &[u8], due: &[u8]) -> Bench {
     let display = b.display;
-    let settings = display.settings;
-    let w = profile::write(settings, front_mut(&mut out, byte_wide(octet(given, 0))));
-    let good = w.answer == answer_due(due) && holds(&out, w.len, behind(due, 1));
+    let good = writes(display.settings, byte_wide(octet(given, 0)), due);
     count(b, good)
 }
 

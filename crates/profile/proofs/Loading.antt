@@ -7,49 +7,26 @@ use native.Mathlib.Omega.{arith}
 use lib.ListN.{length, getD, drop, length-drop}
 use lib.Seq.{getD-drop, drop-drop}
 use lib.Dec.{eqb}
-use borrow.Author.Tests.{le-leb, eq-eqb, ne-eqb}
+use borrow.Author.Tests.{eq-eqb, ne-eqb}
 use Rattle.message_rules.specs.Answer.{done, codeNotAllowed, valueTooLarge, brokenProfile}
 use Rattle.codes.specs.Codes.{allCodes, member}
 use Rattle.settings.specs.Settings.{exceedsMaximum}
 use Rattle.settings.specs.Entries.{entryOf}
 use Rattle.settings.specs.Values.{withValue}
 use Rattle.settings.specs.declared.Settings.{Settings}
-use Rattle.profile_rules.specs.Records.{recordLength, valueKind, recordSize, wordAt, codeIn, valueIn, beginsWithRecord}
+use Rattle.records.specs.Numbers.{wordAt}
+use Rattle.records.proofs.Numbers.{number-dropped}
+use Rattle.records.proofs.Records.{stands-whole}
+use Rattle.profile_rules.specs.Records.{recordLength, valueKind, recordSize, codeIn, valueIn, beginsWithRecord}
 use Rattle.profile_rules.specs.Profile.{codesFrom, profileCodes, recordAnswer, answerTo, judge, judgeProfile, stored, loadAs, loadProfile}
 use Rattle.profile_rules.specs.declared.Judged.{Judged}
 use Rattle.profile_rules.specs.declared.Loaded.{Loaded}
-use Rattle.profile_rules.proofs.Records.{whole, accepted-fits, cut-is-none}
+use Rattle.profile_rules.proofs.Records.{accepted-fits}
 use Rattle.profile_rules.proofs.Rising.{Found}
 use Rattle.profile_rules.proofs.Judging.{judge-next, judge-stops, judge-step, judged-length}
 use Rattle.profile.specs.Parts.{judgedAt, storedRecords}
 
 -- ---- at a position
-
--- a word of what is left from a position on
-pub word-dropped : (s : List ℕ) (at i : ℕ) → wordAt (drop at s) i ≡ wordAt s (at + i)
-word-dropped s at i =
-    let e : at + (i + 1) ≡ at + i + 1 = omega arith in
-    ap₂ (λ (x y : ℕ). x + y * 256) (getD-drop at s i 0) (getD-drop at s (i + 1) 0 ∙ ap (λ (n : ℕ). getD s n 0) e)
-
-pub word-here : (s : List ℕ) (at : ℕ) → wordAt (drop at s) 0 ≡ wordAt s at
-word-here s at = word-dropped s at 0 ∙ (let e : at + 0 ≡ at = omega arith in ap (wordAt s) e)
-
--- the three answers of `record_stands`
-module _ (s : List ℕ) (at : ℕ) where
-  pub stands-cut : length s - at < recordSize → false ≡ beginsWithRecord (drop at s)
-  stands-cut h = sym (cut-is-none (drop at s) (rw length-drop h))
-
-  pub stands-by-kind : recordSize ≤ length s - at → wordAt s at ≡ recordLength → (r : Bool) → r ≡ eqb (wordAt s (at + 2)) valueKind → r ≡ beginsWithRecord (drop at s)
-  unfolding beginsWithRecord
-  stands-by-kind h e r q = rw (le-leb recordSize (length (drop at s)) (rw length-drop h), word-here s at, eq-eqb _ _ e, word-dropped s at 2) q
-
-  pub stands-not : recordSize ≤ length s - at → (wordAt s at ≡ recordLength → ⊥) → false ≡ beginsWithRecord (drop at s)
-  unfolding beginsWithRecord
-  stands-not h e = rw (le-leb recordSize (length (drop at s)) (rw length-drop h), word-here s at, ne-eqb _ _ e)
-
-  -- a record that stands there is whole
-  pub stands-whole : at ≤ length s → beginsWithRecord (drop at s) ≡ true → at + recordSize ≤ length s
-  stands-whole l h = omega (arith, whole (drop at s) h .size, length-drop at s)
 
 -- the answers of `record_answer`
 module _ (s : List ℕ) (at c m : ℕ) (k : Bool) where
@@ -66,7 +43,7 @@ module _ (s : List ℕ) (at c m : ℕ) (k : Bool) where
   unfolding recordAnswer
   answer-value t e q h =
       rw (e, eq-eqb (codeIn (drop at s)) c (getD-drop at s 4 0 ∙ q))
-      (ap (λ (b : Bool). cond b valueTooLarge done) (h ∙ ap (exceedsMaximum k m) (sym (word-dropped s at 5))))
+      (ap (λ (b : Bool). cond b valueTooLarge done) (h ∙ ap (exceedsMaximum k m) (sym (number-dropped 2 s at 5))))
 
 -- the answer to a record, from what is kept of its code
 pub answer-from : (s : Settings) (bytes : List ℕ) (k i a : ℕ) (b : Bool) → a ≡ recordAnswer k b (getD (s .maximum) i 0) bytes → b ≡ member (s .continuous) k → i ≡ k
@@ -103,7 +80,7 @@ store-next s p at h =
     let m = (length p - (at + recordSize)) / recordSize in
     ap (λ (n : ℕ). storedRecords n s (drop at p)) e
     ∙ ap (λ (c : ℕ). storedRecords m (withValue s c (valueIn (drop at p))) (drop recordSize (drop at p))) (getD-drop at p 4 0)
-    ∙ ap₂ (λ (v : ℕ) (b : List ℕ). storedRecords m (withValue s (getD p (at + 4) 0) v) b) (word-dropped p at 5) (drop-drop recordSize at p)
+    ∙ ap₂ (λ (v : ℕ) (b : List ℕ). storedRecords m (withValue s (getD p (at + 4) 0) v) b) (number-dropped 2 p at 5) (drop-drop recordSize at p)
 
 pub store-none : (s : Settings) (p : List ℕ) (at : ℕ) → length p - at < recordSize → storedRecords ((length p - at) / recordSize) s (drop at p) ≡ s
 unfolding storedRecords
@@ -136,7 +113,7 @@ judged-end s at bytes t e = ap (λ (b : Bool). judgedAt (cond b done brokenProfi
 -- a record that is accepted is whole
 pub answered-whole : (s : Settings) (p : List ℕ) (at k : ℕ) → at ≤ length p → answerTo s k (drop at p) ≡ done → at + recordSize ≤ length p
 unfolding answerTo
-answered-whole s p at k l a = stands-whole p at l (accepted-fits k _ _ (drop at p) a .form)
+answered-whole s p at k l a = stands-whole recordLength valueKind p at l (accepted-fits k _ _ (drop at p) a .form)
 
 module _ (s : Settings) (ws p : List ℕ) (at from : ℕ) (left : Left s ws p at from) where
   -- an accepted record

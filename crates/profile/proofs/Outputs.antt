@@ -1,55 +1,25 @@
 -- Runs of bytes put into an output one behind the other.
-use mathlib.Core.Path.{_≡_, sym, ap, ap₂, _∙_}
+use mathlib.Core.Path.{_≡_, sym, ap, _∙_}
 use mathlib.Core.List.{List, [], _∷_, _++_, append-assoc}
 use Prim.Native.Nat.{ℕ, suc, _+_, _*_, _≤_, _<_}
 use native.Mathlib.Omega.{arith}
-use lib.ListN.{length, getD, take, drop, set, length-append, length-drop, take-append-drop}
-use lib.Seq.{sets-eq, take-at, drop-append-add, drop-drop, length-take-le}
+use lib.ListN.{length, getD, take, drop, set}
+use lib.Seq.{sets-eq}
 use borrow.Author.Tests.{le-leb, lt-leb}
+use Rattle.buffers.specs.Buffers.{put}
+use Rattle.buffers.proofs.Puts.{put-none, put-length, put-over, put-next}
 use Rattle.message_rules.specs.Answer.{done, wrongSize}
 use Rattle.codes.specs.Codes.{allCodes, member, countOf}
 use Rattle.settings.specs.declared.Settings.{Settings}
 use Rattle.profile_rules.specs.Records.{valueRecord, recordSize}
-use Rattle.profile_rules.specs.Profile.{codesFrom, profileCodes, recordsOf, profileOf, over, writeProfile}
+use Rattle.profile_rules.specs.Profile.{codesFrom, profileCodes, recordsOf, profileOf, writeProfile}
 use Rattle.profile_rules.proofs.Records.{records-length}
 use Rattle.profile_rules.proofs.Rising.{Found, set-count}
-use Rattle.profile.specs.Parts.{put}
-
--- nothing put
-pub put-none : (out : List ℕ) (at : ℕ) → put out at [] ≡ out
-unfolding put
-put-none out at = let e : at + 0 ≡ at = omega arith in rw e (take-append-drop at out)
-
-pub put-length : (out : List ℕ) (at : ℕ) (s : List ℕ) → at + length s ≤ length out → length (put out at s) ≡ length out
-unfolding put
-put-length out at s h = simp (length-append, length-drop) (omega (arith, length-take-le at out (omega arith)))
-
--- from the start of the output
-pub put-over : (out s : List ℕ) → put out 0 s ≡ over s out
-unfolding put
-put-over out s = let e : 0 + length s ≡ length s = omega arith in ap (λ (n : ℕ). s ++ drop n out) e
-
--- one run behind another
-pub put-next : (out : List ℕ) (at : ℕ) (a b : List ℕ) → at + length a ≤ length out → put (put out at a) (at + length a) b ≡ put out at (a ++ b)
-unfolding put
-put-next out at a b h =
-    let p = take at out ++ a in
-    let rest = drop (at + length a) out in
-    let l : length p ≡ at + length a = length-append (take at out) a ∙ omega (arith, length-take-le at out (omega arith)) in
-    let whole : take at out ++ (a ++ rest) ≡ p ++ rest = sym (append-assoc (take at out) a rest) in
-    let end : at + length a + length b ≡ at + length (a ++ b) = omega (arith, length-append a b) in
-    let left : drop (at + length a + length b) (p ++ rest) ≡ drop (at + length (a ++ b)) out =
-    ap (λ (n : ℕ). drop (n + length b) (p ++ rest)) (sym l) ∙ drop-append-add p rest (length b) ∙ drop-drop (length b) (at + length a) out ∙ ap (λ (n : ℕ). drop n out) end in
-    ap (λ (q : List ℕ). take (at + length a) q ++ (b ++ drop (at + length a + length b) q)) whole
-    ∙ ap₂ (λ (x y : List ℕ). x ++ (b ++ y)) (take-at p rest (at + length a) l) left
-    ∙ append-assoc (take at out) a (b ++ drop (at + length (a ++ b)) out)
-    ∙ ap (λ (x : List ℕ). take at out ++ x) (sym (append-assoc a b (drop (at + length (a ++ b)) out)))
 
 -- seven stores in a row are one run
 pub seven-stores : (out : List ℕ) (at a b c d e f g : ℕ) → at + 7 ≤ length out
     → set (set (set (set (set (set (set out at a) (at + 1) b) (at + 2) c) (at + 3) d) (at + 4) e) (at + 5) f) (at + 6) g
     ≡ put out at (a ∷ b ∷ c ∷ d ∷ e ∷ f ∷ g ∷ [])
-unfolding put
 seven-stores out at a b c d e f g h =
     let e1 : at + 1 ≡ suc at = omega arith in
     let e2 : at + 2 ≡ suc (suc at) = omega arith in
@@ -111,4 +81,4 @@ module _ (s : Settings) (out : List ℕ) where
   pub write-done : (n : ℕ) (after : List ℕ) → n ≡ length (profileOf s) → n ≤ length out → after ≡ put out 0 (profileOf s)
       → record { result = record { answer = done; len = n }; output = after } ≡ writeProfile s out
   unfolding writeProfile
-  write-done n after e h f = rw (le-leb (length (profileOf s)) (length out) (omega arith), e, f, put-over out (profileOf s))
+  write-done n after e h f = rw (le-leb (length (profileOf s)) (length out) (omega arith), e, f, put-over (profileOf s) out)

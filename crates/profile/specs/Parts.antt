@@ -1,7 +1,7 @@
 -- What the inner functions do.
-use Prim.Native.Nat.{ℕ, zero, suc, _+_}
-use mathlib.Core.List.{List, [], _∷_, _++_}
-use lib.ListN.{length, getD, take, drop}
+use Prim.Native.Nat.{ℕ, zero, suc}
+use mathlib.Core.List.{List, [], _∷_}
+use lib.ListN.{getD, drop}
 use lib.Bits.{bitAnd, bitOr, bitXor}
 use Rattle.settings.specs.Values.{withValue}
 use Rattle.settings.specs.declared.Settings.{Settings}
@@ -14,10 +14,6 @@ profileWord d r w m i = bitXor (bitOr (bitAnd (bitAnd (getD d i 0) (getD r i 0))
 
 unfoldable pub profileWords : (d r w m : List ℕ) → List ℕ
 profileWords d r w m = profileWord d r w m 0 ∷ profileWord d r w m 1 ∷ profileWord d r w m 2 ∷ profileWord d r w m 3 ∷ []
-
--- s put into the output at a position; the rest stays
-unfoldable pub put : (out : List ℕ) (at : ℕ) (s : List ℕ) → List ℕ
-put out at s = take at out ++ (s ++ drop (at + length s) out)
 
 -- an answer with a position
 abbrev pub judgedAt : (answer at : ℕ) → Judged

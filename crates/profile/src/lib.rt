@@ -3,6 +3,8 @@
 // Both walk the profile's codes by the next code of one set.
 // The set has the codes that are declared, readable and writable and not momentary.
 // Loading judges the profile in a first pass that stores nothing, so that a refusal has nothing to undo.
+use buffers::wide;
+use buffers::wide16;
 use codes::Next;
 use message_rules::Position;
 use message_rules::answer::BROKEN_PROFILE;
@@ -16,28 +18,18 @@ use profile_rules::RECORD_LENGTH;
 use profile_rules::RECORD_SIZE;
 use profile_rules::VALUE_KIND;
 use profile_rules::Written;
+use records::byte_at;
+use records::stands;
+use records::word_at;
 use settings::Settings;
 ghost use mathlib.Core.Path.{_≡_};
 ghost use Prim.Native.Nat.{_+_, _*_, _/_, _≤_, _<_};
 ghost use lib.ListN.{length, getD, drop};
+ghost use Rattle.buffers.specs.Buffers.{put};
 ghost use Rattle.codes.specs.Codes.{member};
-ghost use Rattle.profile_rules.specs.Records.{valueRecord, recordSize, wordAt, beginsWithRecord};
+ghost use Rattle.profile_rules.specs.Records.{valueRecord, recordSize};
 ghost use Rattle.profile_rules.specs.Profile.{codesFrom, recordsOf, writeProfile, recordAnswer, judgeProfile, loadProfile};
-ghost use Rattle.profile.specs.Parts.{profileWord, profileWords, put, judgedAt, storedRecords};
-
-// Returns the byte as a wider number.
-fn wide(x: u8) -> usize
-    ensures { λ r. ⌜ (r ≡ x) × (r < 256) ⌝ }
-{
-    x as usize
-}
-
-// Returns the byte as a 16-bit number.
-fn wide16(x: u8) -> u16
-    ensures { λ r. ⌜ (r ≡ x) × (r < 256) ⌝ }
-{
-    x as u16
-}
+ghost use Rattle.profile.specs.Parts.{keptWord, keptWords, judgedAt, storedRecords};
 
 // Returns the position n bytes behind another.
 fn after(at: Position, n: usize) -> Position
@@ -126,44 +118,12 @@ pub fn write(s: Settings, out: &mut [u8]) -> Written
     }
 }
 
-// Returns the byte at a position.
-fn byte_at(s: &[u8], at: Position) -> u8
-    requires { ⌜ at .0 < length (now s) ⌝ }
-    ensures { λ r. ⌜ r ≡ getD (now (s .entry)) (at .0) 0 ⌝ }
-{
-    let i = at.0;
-    s[i]
-}
-
-// Returns the 16-bit word at a position, the low byte first.
-fn word_at(s: &[u8], at: Position) -> u16
-    requires { ⌜ at .0 + 1 < length (now s) ⌝ }
-    ensures { λ r. ⌜ r ≡ wordAt (now (s .entry)) (at .0) ⌝ }
-{
-    let i = at.0;
-    wide16(s[i]) + wide16(s[i + 1]) * 256
-}
-
-// Returns whether a record of kind 1 stands at a position: whole, and with its length and kind.
-fn record_stands(s: &[u8], at: Position) -> bool
-    requires { ⌜ at .0 ≤ length (now s) ⌝ }
-    ensures { λ r. ⌜ r ≡ beginsWithRecord (drop (at .0) (now (s .entry))) ⌝ }
-{
-    if s.len() - at.0 < RECORD_SIZE {
-        return false;
-    }
-    if word_at(s, at) == RECORD_LENGTH {
-        return word_at(s, after(at, 2)) == VALUE_KIND;
-    }
-    false
-}
-
 // Returns the answer to the record at a position, where the next code is the one given.
 fn record_answer(s: &[u8], at: Position, code: u8, continuous: bool, maximum: u16) -> u8
     requires { ⌜ at .0 ≤ length (now s) ⌝ }
     ensures { λ r. ⌜ r ≡ recordAnswer code continuous maximum (drop (at .0) (now (s .entry))) ⌝ }
 {
-    if record_stands(s, at) {
+    if stands(s, at, RECORD_LENGTH, VALUE_KIND) {
         if byte_at(s, after(at, 4)) == code {
             if settings::exceeds(continuous, maximum, word_at(s, after(at, 5))) {
                 return VALUE_TOO_LARGE;

@@ -17,7 +17,8 @@ use Rattle.settings.specs.declared.Declaration.{Declaration}
 use Rattle.settings.proofs.Answers.{declare-accepted}
 use Rattle.settings.proofs.Theorems.{declare-accepts, declares-one, starts-with-none, empty-is-sound}
 use mathlib.Core.Logic.{inl}
-use Rattle.profile_rules.specs.Records.{littleEndian, beginsWithRecord}
+use Rattle.records.specs.Numbers.{littleEndian}
+use Rattle.records.specs.Records.{beginsWith}
 use Rattle.profile_rules.specs.Profile.{inProfile, profileCode, profileCodes, rising, recordsOf, profileOf, recordAnswer, answerTo, judge, stored, loadAs, loadProfile}
 use Rattle.profile_rules.specs.Statements.{code10, only10, bytes10, Profile10}
 use Rattle.profile_rules.specs.declared.Judged.{Judged}
@@ -45,7 +46,7 @@ codes-10 = rising-ext (profileCode only10) (λ (c : ℕ). eqb c 0x10) allCodes 0
 
 written-10 : profileOf only10 ≡ bytes10
 unfolding recordsOf entryOf entryDeclared
-written-10 = ap (recordsOf (only10 .saved)) codes-10 ∙ ap (λ (e : Entry). 0x05 ∷ 0x00 ∷ 0x01 ∷ 0x00 ∷ 0x10 ∷ littleEndian (e .saved)) (entries 0x10)
+written-10 = ap (recordsOf (only10 .saved)) codes-10 ∙ ap (λ (e : Entry). 0x05 ∷ 0x00 ∷ 0x01 ∷ 0x00 ∷ 0x10 ∷ littleEndian 2 (e .saved)) (entries 0x10)
 
 -- storing the value that is there changes nothing
 again : (s : Settings) (c v : ℕ) → set (s .present) c v ≡ s .present → set (s .saved) c v ≡ s .saved → withValue s c v ≡ s
@@ -53,7 +54,7 @@ unfolding withValue
 again s c v e f = rw (e, f)
 
 judged-10 : judge only10 (0x10 ∷ []) 0 bytes10 ≡ record { answer = done; position = record { 0 = 7 } }
-unfolding judge answerTo recordAnswer beginsWithRecord entryDeclared
+unfolding judge answerTo recordAnswer beginsWith entryDeclared
 judged-10 = rw (entries 0x10)
 
 declared-as : (s : Settings) (d : Declaration) → declarationRefused (member (s .declared) (d .code)) d ≡ false → declareCode s d .settings ≡ withDeclaration s d

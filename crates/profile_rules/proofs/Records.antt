@@ -3,46 +3,35 @@ use mathlib.Core.Path.{_≡_, refl, ap, _∙_}
 use mathlib.Core.Bool.{Bool, true, false}
 use mathlib.Core.List.{List, [], _∷_, _++_}
 use Prim.Native.Nat.{ℕ, _+_, _*_, _/_, _%_, _≤_, _<_}
-use native.Mathlib.Nat.{div-add-mod'}
 use native.Mathlib.Omega.{arith}
 use lib.ListN.{length, getD, drop}
 use lib.Seq.{drop-cons}
-use lib.Dec.{leb, eqb}
-use borrow.Author.Tests.{leb-true, le-leb, lt-leb, eqb-true, eq-eqb}
+use lib.Dec.{eqb}
+use borrow.Author.Tests.{eqb-true, eq-eqb}
 use Rattle.checksum.specs.Bytes.{Bytes}
 use Rattle.checksum.proofs.Bytes.{bytes-at}
 use Rattle.message_rules.specs.Answer.{done}
 use Rattle.settings.specs.Settings.{exceedsMaximum}
-use Rattle.settings.proofs.Answers.{both}
-use Rattle.profile_rules.specs.Records.{valueRecord, recordLength, valueKind, recordSize, wordAt, codeIn, valueIn, beginsWithRecord}
+use Rattle.records.specs.Numbers.{littleEndian}
+use Rattle.records.proofs.Numbers.{low-high}
+use Rattle.records.proofs.Records as laws
+use Rattle.profile_rules.specs.Records.{valueRecord, recordLength, valueKind, recordSize, codeIn, valueIn, beginsWithRecord}
 use Rattle.profile_rules.specs.Profile.{recordsOf, recordAnswer}
-
--- the two bytes of a value give it back
-pub value-back : (v : ℕ) → v % 256 + v / 256 * 256 ≡ v
-value-back v = omega (arith, div-add-mod' v 256)
 
 -- what is written begins with a record, whatever follows
 pub begins : (c v : ℕ) (rest : List ℕ) → beginsWithRecord (valueRecord c v ++ rest) ≡ true
-unfolding beginsWithRecord
-begins c v rest = rw (le-leb recordSize (length (valueRecord c v ++ rest)) (omega arith))
+begins c v rest = laws.begins valueKind (c ∷ littleEndian 2 v) rest
 
 -- a record that is cut is none
 pub cut-is-none : (s : List ℕ) → length s < recordSize → beginsWithRecord s ≡ false
-unfolding beginsWithRecord
-cut-is-none s h = rw (lt-leb recordSize (length s) h)
+cut-is-none s h = laws.cut-is-none recordLength valueKind s h
 
 -- what a record has
-pub record Whole (s : List ℕ) : Type 0 where
-  pub size : recordSize ≤ length s
-  pub len : wordAt s 0 ≡ recordLength
-  pub kind : wordAt s 2 ≡ valueKind
+abbrev pub Whole : List ℕ → Type 0
+Whole s = laws.Whole recordLength valueKind s
 
 pub whole : (s : List ℕ) → beginsWithRecord s ≡ true → Whole s
-unfolding beginsWithRecord
-whole s e =
-    let size = both (leb recordSize (length s)) _ e in
-    let fields = both (eqb (wordAt s 0) recordLength) (eqb (wordAt s 2) valueKind) (size .1) in
-    record { size = leb-true _ _ (size .0); len = eqb-true _ _ (fields .0); kind = eqb-true _ _ (fields .1) }
+whole s e = laws.whole recordLength valueKind s e
 
 -- the first seven elements of a list
 pub seven : (s : List ℕ) → 7 ≤ length s
@@ -72,7 +61,7 @@ record-read s w b =
 -- a record of the next code with a value within its maximum is accepted
 pub record-accepted : (c v m : ℕ) (k : Bool) (rest : List ℕ) → exceedsMaximum k m v ≡ false → recordAnswer c k m (valueRecord c v ++ rest) ≡ done
 unfolding recordAnswer
-record-accepted c v m k rest e = rw (begins c v rest, eq-eqb c c refl, value-back v, e)
+record-accepted c v m k rest e = rw (begins c v rest, eq-eqb c c refl, low-high v, e)
 
 -- what an accepted record has
 pub record Fits (c m : ℕ) (k : Bool) (s : List ℕ) : Type 0 where

@@ -11,6 +11,7 @@ use Rattle.settings.specs.Settings.{exceedsMaximum}
 use Rattle.settings.specs.Entries.{entryOf}
 use Rattle.settings.specs.declared.Settings.{Settings}
 use Rattle.settings.proofs.Answers.{both, at-most, not-exceeding}
+use Rattle.records.specs.Records.{beginsWith}
 use Rattle.profile_rules.specs.Records.{codeIn, beginsWithRecord}
 use Rattle.profile_rules.specs.Profile.{recordAnswer, answerTo, judge}
 use Rattle.profile_rules.specs.Operations.{end, recordThen, Judges, JudgesOnce}
@@ -30,7 +31,7 @@ begun bytes e =
     cc (seven bytes (w .size))
 
 begins-with : (b low high : ℕ) (rest : List ℕ) → beginsWithRecord (recordThen b low high rest) ≡ true
-unfolding beginsWithRecord
+unfolding beginsWith
 begins-with b low high rest = rw (le-leb 7 (length (recordThen b low high rest)) (omega arith))
 
 begins-none : (bytes : List ℕ) → ((b low high : ℕ) (rest : List ℕ) → bytes ≡ recordThen b low high rest → ⊥) → beginsWithRecord bytes ≡ false

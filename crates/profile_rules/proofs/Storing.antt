@@ -20,7 +20,8 @@ use Rattle.settings.proofs.Values.{value-stored, value-sized, value-sound}
 use Rattle.profile_rules.specs.Records.{valueRecord, recordSize, valueIn}
 use Rattle.profile_rules.specs.Profile.{recordsOf, judge, stored}
 use Rattle.profile_rules.specs.Statements.{Alike}
-use Rattle.profile_rules.proofs.Records.{value-back, whole, record-read}
+use Rattle.profile_rules.proofs.Records.{whole, record-read}
+use Rattle.records.proofs.Numbers.{low-high}
 use Rattle.profile_rules.proofs.Judging.{judge-alike, judge-step, judged-length}
 use Rattle.profile_rules.proofs.Rising.{RisingFrom, none, more, has}
 
@@ -77,7 +78,7 @@ stored-records s values rest d (more {k} {c} {cs} a b r) z =
     let sized = value-sized s k v z in
     ⊎-elim
     (λ e. rw (eq-eqb d k e) (stored-below next left d r sized (omega arith) ∙ value-stored s k v z b d ∙ rw (eq-eqb d k e)
-    (ap (entryValue (entryOf s d)) (value-back (getD values k 0) ∙ ap (λ (n : ℕ). getD values n 0) (sym e)))))
+    (ap (entryValue (entryOf s d)) (low-high (getD values k 0) ∙ ap (λ (n : ℕ). getD values n 0) (sym e)))))
     (λ q. rw (ne-eqb d k q) (stored-records next values rest d r sized
     ∙ ap (λ (e : Entry). cond (has cs d) (entryValue e (getD values d 0)) e) (value-away s k v d z b q)))
     (eq-or-ne d k)

@@ -4,6 +4,7 @@ use mathlib.Core.Bool.{Bool, cond, not, _&&_}
 use mathlib.Core.List.{List, [], _∷_, _++_}
 use lib.ListN.{length, getD, drop}
 use lib.Dec.{leb, eqb}
+use Rattle.buffers.specs.Buffers.{over}
 use Rattle.message_rules.specs.Answer.{done, wrongSize, codeNotAllowed, valueTooLarge, brokenProfile}
 use Rattle.codes.specs.Codes.{allCodes}
 use Rattle.settings.specs.Settings.{exceedsMaximum}
@@ -47,11 +48,7 @@ recordsOf values (c ∷ cs) = valueRecord c (getD values c 0) ++ recordsOf value
 abbrev pub profileOf : Settings → List ℕ
 profileOf s = recordsOf (s .saved) (profileCodes s)
 
--- s at the start of the output; "Bytes of an output beyond the reply length stay."
-abbrev pub over : List ℕ → List ℕ → List ℕ
-over s out = s ++ drop (length s) out
-
--- the answer with the length written, and the output afterwards
+-- the answer with the length written, and the output afterwards; "Bytes of an output beyond the reply length stay."
 pub record Outcome : Type 0 where
   pub result : Written
   pub output : List ℕ

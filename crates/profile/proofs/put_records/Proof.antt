@@ -10,7 +10,7 @@ use Rattle.codes.specs.Codes.{allCodes, member}
 use Rattle.profile_rules.specs.Records.{recordSize}
 use Rattle.profile_rules.specs.Profile.{codesFrom, recordsOf}
 use Rattle.profile_rules.proofs.Rising.{Found, next-found, next-nothing}
-use Rattle.profile.specs.Parts.{put}
+use Rattle.buffers.specs.Buffers.{put}
 use Rattle.profile.proofs.Outputs.{put-room, put-end, put-turn}
 use Rattle.profile.proofs.put_records.Statement.{statement}
 use Rattle.profile.proofs.put_records.Tie as tie

@@ -1,29 +1,25 @@
 -- `record_answer` tests the form, the code and the value, in this order.
 use mathlib.Core.Path.{_≡_, sym, ap, _∙_}
-use Prim.Native.Nat.{_+_, _≤_}
+use Prim.Native.Nat.{_+_}
 use mathlib.Core.Bool.{true, false}
-use native.Mathlib.Omega.{arith}
 use borrow.Author.Needs.{needs}
-use lib.ListN.{length, getD, drop}
-use Rattle.profile_rules.specs.Records.{recordSize, wordAt, beginsWithRecord}
+use lib.ListN.{getD, drop}
+use Rattle.records.specs.Numbers.{wordAt}
+use Rattle.profile_rules.specs.Records.{beginsWithRecord}
 use Rattle.settings.specs.Settings.{exceedsMaximum}
-use Rattle.profile.proofs.Loading.{stands-whole, answer-broken, answer-code, answer-value}
+use Rattle.profile.proofs.Loading.{answer-broken, answer-code, answer-value}
 use Rattle.profile.proofs.record_answer.Statement.{statement}
 use Rattle.profile.proofs.record_answer.Tie as tie
 
-record-stands-requires : tie.Need-record-stands-requires
-record-stands-requires c κs = search needs
+stands-requires : tie.Need-stands-requires
+stands-requires c κs = search needs
 
 after-requires : tie.Need-after-requires
 after-requires c κs = search needs
 
 -- a record stands there
-stands : (c : tie.Then1) → let given = c .before .before .before .args in beginsWithRecord (drop (given .at .0) (given .s .now)) ≡ true
-stands c = sym (c .before .record-stands .ensures) ∙ c .if1 .taken
-
--- and it is whole
-stands-room : (c : tie.Then1) → let given = c .before .before .before .args in given .at .0 + recordSize ≤ length (given .s .now)
-stands-room c = stands-whole _ _ (c .before .before .before .pre) (stands c)
+stands-there : (c : tie.Then1) → let given = c .before .before .before .args in beginsWithRecord (drop (given .at .0) (given .s .now)) ≡ true
+stands-there c = sym (c .before .stands .ensures) ∙ c .if1 .taken
 
 -- its code
 code-found : (c : tie.After-byte-at) → let given = c .before .before .before .before .before .args in c .byte-at .result ≡ getD (given .s .now) (given .at .0 + 4) 0
@@ -37,13 +33,13 @@ above c =
     c .exceeds .ensures ∙ ap (exceedsMaximum (given .continuous) (given .maximum)) (rw (c .before .before .after2 .ensures) at (c .before .word-at .ensures))
 
 byte-at-requires : tie.Need-byte-at-requires
-byte-at-requires c κs = omega (arith, c .after .ensures, stands-room (c .before))
+byte-at-requires c κs = search needs
 
 after-requires-2 : tie.Need-after-requires-2
 after-requires-2 c κs = search needs
 
 word-at-requires : tie.Need-word-at-requires
-word-at-requires c κs = omega (arith, c .after2 .ensures, stands-room (c .before .before .before .before))
+word-at-requires c κs = search needs
 
 exceeds-requires : tie.Need-exceeds-requires
 exceeds-requires c κs = search needs
@@ -52,32 +48,32 @@ returns : tie.Need-returns
 returns c =
     let code = c .before .before .before .before .before in
     let given = code .before .before .before .before .before .args in
-    answer-value (given .s .now) (given .at .0) (given .code) (given .maximum) (given .continuous) true (stands (code .before .before))
+    answer-value (given .s .now) (given .at .0) (given .code) (given .maximum) (given .continuous) true (stands-there (code .before .before))
     (sym (code-found code) ∙ c .before .before .before .before .if2 .taken) (sym (c .if3 .taken) ∙ above (c .before))
 
 returns-2 : tie.Need-returns-2
 returns-2 c =
     let code = c .before .before .before .before .before in
     let given = code .before .before .before .before .before .args in
-    answer-value (given .s .now) (given .at .0) (given .code) (given .maximum) (given .continuous) false (stands (code .before .before))
+    answer-value (given .s .now) (given .at .0) (given .code) (given .maximum) (given .continuous) false (stands-there (code .before .before))
     (sym (code-found code) ∙ c .before .before .before .before .if2 .taken) (sym (c .if3 .left) ∙ above (c .before))
 
 returns-3 : tie.Need-returns-3
 returns-3 c =
     let code = c .before in
     let given = code .before .before .before .before .before .args in
-    answer-code (given .s .now) (given .at .0) (given .code) (given .maximum) (given .continuous) (stands (code .before .before)) (λ e. c .if2 .left (code-found code ∙ e))
+    answer-code (given .s .now) (given .at .0) (given .code) (given .maximum) (given .continuous) (stands-there (code .before .before)) (λ e. c .if2 .left (code-found code ∙ e))
 
 returns-4 : tie.Need-returns-4
 returns-4 c =
     let given = c .before .before .before .args in
-    answer-broken (given .s .now) (given .at .0) (given .code) (given .maximum) (given .continuous) (sym (c .before .record-stands .ensures) ∙ c .if1 .left)
+    answer-broken (given .s .now) (given .at .0) (given .code) (given .maximum) (given .continuous) (sym (c .before .stands .ensures) ∙ c .if1 .left)
 
 pub record-answer-spec : {M : Type 1} → statement M
 record-answer-spec =
     tie.close
     (tie.spec
-    record-stands-requires
+    stands-requires
     after-requires
     byte-at-requires
     after-requires-2

@@ -8,7 +8,7 @@ use borrow.Author.Needs.{needs}
 use Rattle.codes.specs.Codes.{member}
 use Rattle.profile_rules.specs.Records.{recordSize}
 use Rattle.profile_rules.specs.Profile.{codesFrom, profileCodes, recordsOf, profileOf}
-use Rattle.profile.specs.Parts.{put}
+use Rattle.buffers.specs.Buffers.{put}
 use Rattle.profile.proofs.Sets.{set-codes}
 use Rattle.profile.proofs.Outputs.{profile-size, write-refused, write-done}
 use Rattle.profile.proofs.write.Statement.{statement}

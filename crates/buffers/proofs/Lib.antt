@@ -1,0 +1,3 @@
+pub mod Puts
+pub mod Theorems
+pub mod Refuted

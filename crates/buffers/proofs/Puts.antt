@@ -1,0 +1,34 @@
+-- Bytes put into a buffer: nothing, from its start on, and one run behind another.
+use mathlib.Core.Path.{_≡_, sym, ap, ap₂, _∙_}
+use mathlib.Core.List.{List, [], _++_, append-assoc}
+use Prim.Native.Nat.{ℕ, _+_, _≤_}
+use native.Mathlib.Omega.{arith}
+use lib.ListN.{length, take, drop, length-append, length-drop, take-append-drop}
+use lib.Seq.{take-at, drop-append-add, drop-drop, length-take-le}
+use Rattle.buffers.specs.Buffers.{over, put}
+
+-- nothing put
+pub put-none : (out : List ℕ) (at : ℕ) → put out at [] ≡ out
+put-none out at = let e : at + 0 ≡ at = omega arith in ap (λ (n : ℕ). take at out ++ drop n out) e ∙ take-append-drop at out
+
+pub put-length : (out : List ℕ) (at : ℕ) (s : List ℕ) → at + length s ≤ length out → length (put out at s) ≡ length out
+put-length out at s h = simp (length-append, length-drop) (omega (arith, length-take-le at out (omega arith)))
+
+-- from the start of the output
+pub put-over : (s out : List ℕ) → put out 0 s ≡ over s out
+put-over s out = let e : 0 + length s ≡ length s = omega arith in ap (λ (n : ℕ). s ++ drop n out) e
+
+-- one run behind another
+pub put-next : (out : List ℕ) (at : ℕ) (a b : List ℕ) → at + length a ≤ length out → put (put out at a) (at + length a) b ≡ put out at (a ++ b)
+put-next out at a b h =
+    let p = take at out ++ a in
+    let rest = drop (at + length a) out in
+    let l : length p ≡ at + length a = length-append (take at out) a ∙ omega (arith, length-take-le at out (omega arith)) in
+    let whole : take at out ++ (a ++ rest) ≡ p ++ rest = sym (append-assoc (take at out) a rest) in
+    let end : at + length a + length b ≡ at + length (a ++ b) = omega (arith, length-append a b) in
+    let left : drop (at + length a + length b) (p ++ rest) ≡ drop (at + length (a ++ b)) out =
+    ap (λ (n : ℕ). drop (n + length b) (p ++ rest)) (sym l) ∙ drop-append-add p rest (length b) ∙ drop-drop (length b) (at + length a) out ∙ ap (λ (n : ℕ). drop n out) end in
+    ap (λ (q : List ℕ). take (at + length a) q ++ (b ++ drop (at + length a + length b) q)) whole
+    ∙ ap₂ (λ (x y : List ℕ). x ++ (b ++ y)) (take-at p rest (at + length a) l) left
+    ∙ append-assoc (take at out) a (b ++ drop (at + length (a ++ b)) out)
+    ∙ ap (λ (x : List ℕ). take at out ++ x) (sym (append-assoc a b (drop (at + length (a ++ b)) out)))

@@ -1,5 +1,7 @@
 // The display for Rust and C: its state is a struct of numbers and arrays by value, and all else goes by slices.
 // Thin over the proved functions, refusing like them.
+pub mod asked;
+
 ghost use mathlib.Core.Path.{_≡_};
 ghost use lib.ListN.{length};
 ghost use Rattle.codes.specs.Codes.{countOf, nextOf};

@@ -4,9 +4,11 @@ ghost use Prim.Native.Nat.{_<_};
 ghost use Rattle.codes.specs.Codes.{noCodes, member, bitAssigned, assigned, inserted, countOf, nextOf};
 ghost use Rattle.codes.specs.Words.{Weight, FirstBit};
 
-// The least code of a set from some number on, or nothing.
+// The least code of a set from some number on.
 pub enum Next {
+    // There is one, and it is this.
     Code(u8),
+    // There is none.
     Nothing,
 }
 

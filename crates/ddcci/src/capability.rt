@@ -5,14 +5,18 @@ ghost use Rattle.ddcci.specs.Capabilities.{readingNumbers, ReadsNumbers}
 use capabilities_rules::Reading;
 use message_rules::answer;
 
-// What reading a capabilities string answers: an answer number; the number of nodes, or 0; and the position that is refused, or 0.
+// What reading a capabilities string returns.
 #[repr(C)]
 pub struct ReadingNumbers {
+    // The answer number.
     pub answer: u8,
+    // The number of nodes, or 0.
     pub nodes: usize,
+    // The position that is refused, or 0.
     pub position: usize,
 }
 
+// Returns a reading as numbers.
 fn reading_numbers(reading: Reading) -> ReadingNumbers
     ensures { λ r. ⌜ r ≡ readingNumbers reading ⌝ }
 {
@@ -30,7 +34,9 @@ fn reading_numbers(reading: Reading) -> ReadingNumbers
     }
 }
 
-// Reads a capabilities string into four buffers, one entry a node.
+// Reads a capabilities string into four buffers, one entry a node in each.
+// Returns the answer, and the number of nodes or the position that is refused.
+// A string that is refused leaves the buffers as they were.
 #[no_mangle]
 pub extern "C" fn ddcci_read_capabilities(
     text: &[u8],

@@ -1,4 +1,5 @@
-// The library's functions for Rust and C: on numbers and slices alone, thin over the proved functions, refusing like them.
+// The library's functions for Rust and C, on numbers and slices alone.
+// They are thin over the proved functions, and refuse like them.
 pub mod capability;
 pub mod reply;
 pub mod request;
@@ -10,13 +11,16 @@ ghost use Rattle.ddcci.specs.Numbers.{builtNumbers};
 use message_builder::Built;
 use message_rules::answer;
 
-// What a builder answers: an answer number, and the length of the message or 0.
+// What a builder returns.
 #[repr(C)]
 pub struct BuiltNumbers {
+    // The answer number.
     pub answer: u8,
+    // The length of the message in the output, or 0.
     pub len: usize,
 }
 
+// Returns what a builder returned as numbers.
 pub(crate) fn built_numbers(built: Built) -> BuiltNumbers
     ensures { λ r. ⌜ r ≡ builtNumbers built ⌝ }
 {
@@ -29,7 +33,7 @@ pub(crate) fn built_numbers(built: Built) -> BuiltNumbers
     }
 }
 
-// The exclusive or of the bytes with a seed.
+// Returns the exclusive-or of the bytes with a seed.
 #[no_mangle]
 pub extern "C" fn ddcci_checksum(seed: u8, bytes: &[u8]) -> u8
     ensures { λ r. ⌜ r ≡ xorAll seed (now (bytes .entry)) ⌝ }

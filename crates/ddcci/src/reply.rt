@@ -1,4 +1,6 @@
 // Replies for Rust and C: the messages to the host.
+// A builder puts its message into the output, and returns answer 0 and the message's length.
+// A refusal returns its number and length 0, and leaves the output as it was: 1 for an output under 38 bytes, then 7.
 ghost use mathlib.Core.Path.{_≡_};
 ghost use mathlib.Core.Bool.{true};
 ghost use Rattle.message_rules.specs.Message.{replies, toHost, null, value, timingReply, textFragment, tableFragment};
@@ -12,21 +14,30 @@ use message_rules::TO_HOST;
 use message_rules::TextOffset;
 use message_rules::answer;
 
-// What reading a reply answers: an answer number; the command number; a Value's result or a timing's status; a Value's code and type; two words (maximum and present, horizontal and vertical, or the offset); where the data
-// start in the slice, and how many they are. What a message does not have is 0.
+// What reading a reply returns. What a message does not have is 0.
 #[repr(C)]
 pub struct ReplyNumbers {
+    // The answer number.
     pub answer: u8,
+    // The command number.
     pub command: u8,
+    // A Value's result, or a timing's status.
     pub status: u8,
+    // A Value's code.
     pub code: u8,
+    // A Value's type.
     pub kind: u8,
+    // A Value's maximum, a timing's horizontal frequency, or a fragment's offset.
     pub first: u16,
+    // A Value's present value, or a timing's vertical frequency.
     pub second: u16,
+    // Where a fragment's data start in the slice.
     pub position: usize,
+    // How many data bytes there are.
     pub len: usize,
 }
 
+// Returns the numbers of a fragment: its command number, its offset, and where its data stand.
 fn fragment_numbers(command: u8, offset: u16, position: usize, length: usize) -> ReplyNumbers
     ensures { λ r. ⌜ r ≡ fragmentNumbers command offset position length ⌝ }
 {
@@ -43,6 +54,7 @@ fn fragment_numbers(command: u8, offset: u16, position: usize, length: usize) ->
     }
 }
 
+// Returns the numbers of a reply without data, or those of a refusal.
 fn field_numbers(
     number: u8,
     command: u8,
@@ -67,6 +79,7 @@ fn field_numbers(
     }
 }
 
+// Returns a reply that was read, or its refusal, as numbers.
 fn reply_numbers(read: ReplyRead) -> ReplyNumbers
     ensures { λ r. ⌜ r ≡ replyNumbers read ⌝ }
 {
@@ -89,7 +102,8 @@ fn reply_numbers(read: ReplyRead) -> ReplyNumbers
     }
 }
 
-// Not by `read_display_reply`, which does the same: a reader that only one export uses is inlined into it.
+// Returns the fields of a reply to the host, or the answer that refuses it; the null message is 12.
+// `read_display_reply` does the same, and is not called: a reader that only one export uses is inlined into it.
 #[no_mangle]
 pub extern "C" fn ddcci_read_reply(message: &[u8]) -> ReplyNumbers
     ensures { λ r. ⌜ ReadsReply (now (message .entry)) r ⌝ }
@@ -100,6 +114,8 @@ pub extern "C" fn ddcci_read_reply(message: &[u8]) -> ReplyNumbers
     reply_numbers(read_reply(TO_HOST, message))
 }
 
+// Builds a Value: result, code, type, maximum and present value.
+// A result or a type above 1 is refused with 7.
 #[no_mangle]
 pub extern "C" fn ddcci_build_value(
     result: u8,
@@ -114,6 +130,8 @@ pub extern "C" fn ddcci_build_value(
     crate::built_numbers(reply::build_value(TO_HOST, result, code, kind, max, present, out))
 }
 
+// Builds a Timing reply: status, horizontal and vertical frequency.
+// A status with one of its bits 5 to 2 set is refused with 7.
 #[no_mangle]
 pub extern "C" fn ddcci_build_timing_reply(
     status: u8,
@@ -126,6 +144,8 @@ pub extern "C" fn ddcci_build_timing_reply(
     crate::built_numbers(reply::build_timing_reply(TO_HOST, status, horizontal, vertical, out))
 }
 
+// Builds a fragment of the capabilities string: its offset and its data.
+// More than 32 data bytes are refused with 7.
 #[no_mangle]
 pub extern "C" fn ddcci_build_text_fragment(
     offset: u16,
@@ -137,6 +157,8 @@ pub extern "C" fn ddcci_build_text_fragment(
     crate::built_numbers(reply::build_text_fragment(TO_HOST, TextOffset(offset), data, out))
 }
 
+// Builds a fragment of the table: its offset and its data.
+// More than 32 data bytes are refused with 7.
 #[no_mangle]
 pub extern "C" fn ddcci_build_table_fragment(
     offset: u16,
@@ -148,6 +170,7 @@ pub extern "C" fn ddcci_build_table_fragment(
     crate::built_numbers(reply::build_table_fragment(TO_HOST, TextOffset(offset), data, out))
 }
 
+// Builds the null message: 6E 80 BE.
 #[no_mangle]
 pub extern "C" fn ddcci_build_null(out: &mut [u8]) -> BuiltNumbers
     ensures { λ r. ⌜ BuildsNumbers true (null toHost) (now (out .entry)) (now (out .exit)) r ⌝ }

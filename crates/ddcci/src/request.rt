@@ -1,4 +1,6 @@
 // Requests for Rust and C: the messages to the display.
+// A builder puts its message into the output, and returns answer 0 and the message's length.
+// A refusal returns its number and length 0, and leaves the output as it was: 1 for an output under 38 bytes, then 7.
 ghost use mathlib.Core.Path.{_≡_};
 ghost use Rattle.message_rules.specs.Message.{requests, toDisplay, getFeature, setFeature, timing, save, text, tableRead, tableWrite};
 ghost use Rattle.ddcci.specs.Numbers.{requestFields, requestNumbers, BuildsMessageNumbers, ReadsRequest};
@@ -10,17 +12,24 @@ use message_rules::TO_DISPLAY;
 use message_rules::TextOffset;
 use message_rules::answer;
 
-// What reading a request answers: an answer number; the command number; the code; the value or the offset; where the data start in the slice, and how many they are. What a message does not have is 0.
+// What reading a request returns. What a message does not have is 0.
 #[repr(C)]
 pub struct RequestNumbers {
+    // The answer number.
     pub answer: u8,
+    // The command number.
     pub command: u8,
+    // The code.
     pub code: u8,
+    // A Set's value, or an offset.
     pub word: u16,
+    // Where the data of a Table write start in the slice.
     pub position: usize,
+    // How many data bytes there are.
     pub len: usize,
 }
 
+// Returns the numbers of a request without data.
 fn message_numbers(command: u8, code: u8, word: u16) -> RequestNumbers
     ensures { λ r. ⌜ r ≡ requestFields command code word ⌝ }
 {
@@ -34,6 +43,7 @@ fn message_numbers(command: u8, code: u8, word: u16) -> RequestNumbers
     }
 }
 
+// Returns a request that was read, or its refusal, as numbers.
 fn request_numbers(read: RequestRead) -> RequestNumbers
     ensures { λ r. ⌜ r ≡ requestNumbers read ⌝ }
 {
@@ -68,6 +78,7 @@ fn request_numbers(read: RequestRead) -> RequestNumbers
     }
 }
 
+// Returns the fields of a request to the display, or the answer that refuses it.
 #[no_mangle]
 pub extern "C" fn ddcci_read_request(message: &[u8]) -> RequestNumbers
     ensures { λ r. ⌜ ReadsRequest (now (message .entry)) r ⌝ }
@@ -75,6 +86,7 @@ pub extern "C" fn ddcci_read_request(message: &[u8]) -> RequestNumbers
     request_numbers(read_request(TO_DISPLAY, message))
 }
 
+// Builds a Get, which asks for the value of a code.
 #[no_mangle]
 pub extern "C" fn ddcci_build_get(code: u8, out: &mut [u8]) -> BuiltNumbers
     ensures { λ r. ⌜ BuildsMessageNumbers requests toDisplay (getFeature code) (now (out .entry)) (now (out .exit)) r ⌝ }
@@ -82,6 +94,7 @@ pub extern "C" fn ddcci_build_get(code: u8, out: &mut [u8]) -> BuiltNumbers
     crate::built_numbers(request::build_get(TO_DISPLAY, code, out))
 }
 
+// Builds a Set, which sets a code to a value.
 #[no_mangle]
 pub extern "C" fn ddcci_build_set(code: u8, value: u16, out: &mut [u8]) -> BuiltNumbers
     ensures { λ r. ⌜ BuildsMessageNumbers requests toDisplay (setFeature code value) (now (out .entry)) (now (out .exit)) r ⌝ }
@@ -89,6 +102,7 @@ pub extern "C" fn ddcci_build_set(code: u8, value: u16, out: &mut [u8]) -> Built
     crate::built_numbers(request::build_set(TO_DISPLAY, code, value, out))
 }
 
+// Builds a Timing, which asks for the timing.
 #[no_mangle]
 pub extern "C" fn ddcci_build_timing(out: &mut [u8]) -> BuiltNumbers
     ensures { λ r. ⌜ BuildsMessageNumbers requests toDisplay timing (now (out .entry)) (now (out .exit)) r ⌝ }
@@ -96,6 +110,7 @@ pub extern "C" fn ddcci_build_timing(out: &mut [u8]) -> BuiltNumbers
     crate::built_numbers(request::build_timing(TO_DISPLAY, out))
 }
 
+// Builds a Save, which saves every present value.
 #[no_mangle]
 pub extern "C" fn ddcci_build_save(out: &mut [u8]) -> BuiltNumbers
     ensures { λ r. ⌜ BuildsMessageNumbers requests toDisplay save (now (out .entry)) (now (out .exit)) r ⌝ }
@@ -103,6 +118,7 @@ pub extern "C" fn ddcci_build_save(out: &mut [u8]) -> BuiltNumbers
     crate::built_numbers(request::build_save(TO_DISPLAY, out))
 }
 
+// Builds a Text, which asks for the fragment of the capabilities string at an offset.
 #[no_mangle]
 pub extern "C" fn ddcci_build_text(offset: u16, out: &mut [u8]) -> BuiltNumbers
     ensures { λ r. ⌜ BuildsMessageNumbers requests toDisplay (text offset) (now (out .entry)) (now (out .exit)) r ⌝ }
@@ -110,6 +126,7 @@ pub extern "C" fn ddcci_build_text(offset: u16, out: &mut [u8]) -> BuiltNumbers
     crate::built_numbers(request::build_text(TO_DISPLAY, TextOffset(offset), out))
 }
 
+// Builds a Table read, which asks for the fragment of the table at an offset.
 #[no_mangle]
 pub extern "C" fn ddcci_build_table_read(code: u8, offset: u16, out: &mut [u8]) -> BuiltNumbers
     ensures { λ r. ⌜ BuildsMessageNumbers requests toDisplay (tableRead code offset) (now (out .entry)) (now (out .exit)) r ⌝ }
@@ -117,6 +134,8 @@ pub extern "C" fn ddcci_build_table_read(code: u8, offset: u16, out: &mut [u8]) 
     crate::built_numbers(request::build_table_read(TO_DISPLAY, code, TextOffset(offset), out))
 }
 
+// Builds a Table write, which writes data into the table at an offset.
+// More than 31 data bytes are refused with 7.
 #[no_mangle]
 pub extern "C" fn ddcci_build_table_write(
     code: u8,

@@ -1,4 +1,5 @@
-// Transfers for Rust and C: a transfer's state as numbers. A state that no call has made is judged like any other, never trusted.
+// Transfers for Rust and C: a transfer's state as numbers.
+// A state that no call has made is judged like any other, never trusted.
 ghost use mathlib.Core.Path.{_≡_};
 ghost use Prim.Native.Nat.{_<_};
 ghost use lib.ListN.{length};
@@ -11,18 +12,22 @@ use message_rules::answer;
 use transfer_rules::State;
 use transfer_rules::Transfer;
 
-// A transfer: the length of the buffer that it was begun with; the offset reached; its budget and count; its phase;
-// and the answer of the call that made it.
-// The phase is 4 times the text's number (0 the capabilities string, 1 the table), and the state:
-// 0 exhausted, 1 running, 2 done, 3 overflowed. So zeroes are a closed transfer.
-// Sixteen bytes in all, so that it goes in and out in registers.
+// A transfer. Zeros are a closed one.
+// It has sixteen bytes in all, so that it goes in and out in registers.
 #[repr(C)]
 pub struct TransferNumbers {
+    // The length of the buffer that it was begun with.
     pub size: usize,
+    // The offset reached.
     pub offset: u16,
+    // The most exchanges that it counts.
     pub budget: u16,
+    // How many exchanges it has counted.
     pub count: u16,
+    // 4 times the text's number (0 the capabilities string, 1 the table), and its state:
+    // 0 exhausted, 1 running, 2 done, 3 overflowed.
     pub phase: u8,
+    // The answer of the call that made it.
     pub answer: u8,
 }
 
@@ -32,7 +37,7 @@ const TABLE_PHASES: u8 = 4;
 // The phase of a transfer whose text is unknown: exhausted, and of no text.
 const NO_PHASE: u8 = 8;
 
-// A number above 3 is no state that runs.
+// Returns the state that a number stands for. A number above 3 is no state that runs.
 fn state_of(number: u8) -> State
     ensures { λ r. ⌜ r ≡ stateOf number ⌝ }
 {
@@ -44,6 +49,7 @@ fn state_of(number: u8) -> State
     }
 }
 
+// Returns the number of a state.
 fn state_number(state: State) -> u8
     ensures { λ r. ⌜ (r ≡ stateNumber state) × (r < 4) ⌝ }
 {
@@ -55,6 +61,7 @@ fn state_number(state: State) -> u8
     }
 }
 
+// Returns the first phase of a text: 4 times its number.
 fn first_phase(kind: TextKind) -> u8
     ensures { λ r. ⌜ (r ≡ firstPhase kind) × (r < 5) ⌝ }
 {
@@ -64,6 +71,7 @@ fn first_phase(kind: TextKind) -> u8
     }
 }
 
+// Returns the phase of a transfer of this text in this state.
 fn phase_number(kind: TextKind, state: State) -> u8
     ensures { λ r. ⌜ r ≡ phaseNumber kind state ⌝ }
 {
@@ -72,10 +80,13 @@ fn phase_number(kind: TextKind, state: State) -> u8
 
 // The text that a number names.
 enum TextNumber {
+    // The number names this text.
     Known(TextKind),
+    // The number names none.
     Unknown,
 }
 
+// Returns the text that a number names: 0 the capabilities string, 1 the table.
 fn text_of(number: u8) -> TextNumber
     ensures { λ r. ⌜ r ≡ textOf number ⌝ }
 {
@@ -86,6 +97,7 @@ fn text_of(number: u8) -> TextNumber
     }
 }
 
+// Returns the transfer of this text that the numbers say.
 fn transfer_of(kind: TextKind, n: TransferNumbers) -> Transfer
     ensures { λ r. ⌜ r ≡ transferOf kind n ⌝ }
 {
@@ -100,6 +112,7 @@ fn transfer_of(kind: TextKind, n: TransferNumbers) -> Transfer
     }
 }
 
+// Returns a transfer and an answer as numbers.
 fn numbers_of(t: Transfer, answer: u8) -> TransferNumbers
     ensures { λ r. ⌜ r ≡ numbersOf t answer ⌝ }
 {
@@ -115,7 +128,8 @@ fn numbers_of(t: Transfer, answer: u8) -> TransferNumbers
     }
 }
 
-// Begins a transfer; an unknown text is 6, with a transfer that is closed.
+// Returns a transfer of a text, with the buffer that it will fill and a budget of exchanges.
+// A budget above 65,535 is refused with 18, an unknown text with 6; the transfer is then closed.
 #[no_mangle]
 pub extern "C" fn ddcci_begin(kind: u8, buffer: &[u8], budget: usize) -> TransferNumbers
     ensures { λ r. ⌜ r ≡ beginNumbers kind (length (now (buffer .entry))) budget ⌝ }
@@ -136,7 +150,8 @@ pub extern "C" fn ddcci_begin(kind: u8, buffer: &[u8], budget: usize) -> Transfe
     }
 }
 
-// The request of a transfer of this text.
+// Builds the request of a transfer of this text.
+// Returns the answer and the request's length.
 fn request_of(kind: TextKind, n: TransferNumbers, out: &mut [u8]) -> BuiltNumbers
     ensures { λ r. ⌜ Requests (rules.request (transferOf kind n) (now (out .entry))) r (now (out .exit)) ⌝ }
 {
@@ -147,7 +162,9 @@ fn request_of(kind: TextKind, n: TransferNumbers, out: &mut [u8]) -> BuiltNumber
     }
 }
 
-// Builds the request for the offset that the transfer has reached; an unknown text is 6, and nothing is written.
+// Builds the request for the offset that the transfer has reached.
+// Returns the answer and the request's length.
+// An unknown text is 6, and nothing is written.
 #[no_mangle]
 pub extern "C" fn ddcci_request(n: TransferNumbers, out: &mut [u8]) -> BuiltNumbers
     ensures { λ r. ⌜ Requests (requestOutcome n (now (out .entry))) r (now (out .exit)) ⌝ }
@@ -161,7 +178,8 @@ pub extern "C" fn ddcci_request(n: TransferNumbers, out: &mut [u8]) -> BuiltNumb
     }
 }
 
-// What a transfer of this text receives.
+// Receives the bytes that came back, for a transfer of this text.
+// Returns the transfer afterwards, with the answer in it.
 fn receive_of(
     kind: TextKind,
     n: TransferNumbers,
@@ -174,7 +192,9 @@ fn receive_of(
     numbers_of(received.transfer, received.answer)
 }
 
-// Receives the bytes that came back; an unknown text is 6, and nothing else changes.
+// Receives the bytes that came back, with the buffer that the transfer was begun with.
+// Returns the transfer afterwards, with the answer in it.
+// An unknown text is 6, and nothing else changes.
 #[no_mangle]
 pub extern "C" fn ddcci_receive(
     n: TransferNumbers,

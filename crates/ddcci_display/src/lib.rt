@@ -23,9 +23,10 @@ use profile_rules::Written;
 use settings::Declaration;
 use settings::Timing;
 
-// Which text a fragment was sent of.
+// The number of the text that a fragment was sent of: the capabilities string.
 pub const CAPABILITIES: u8 = 1;
 
+// The number of the text that a fragment was sent of: the table.
 pub const TABLE: u8 = 2;
 
 // What stands for a code where there is none.
@@ -140,7 +141,8 @@ fn moved(d: Display, kind: TextKind, cursor: FragmentCursor, length: usize) -> D
 }
 
 // Answers one message to the display, and returns the display afterwards.
-// It does what `display::step` does, with a `return` for each case; a call of that function would copy the display once more.
+// It does what `display::step` does, with a `return` for each case.
+// A call of that function would copy the display once more.
 #[no_mangle]
 pub extern "C" fn ddcci_display_step(
     d: Display,

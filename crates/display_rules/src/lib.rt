@@ -1,50 +1,68 @@
-// The types of a display (the papers' board), and of what its start, declaring and a step return. What they mean stands in specs/, the theorems in proofs/.
+// The types of a display (the papers' board), and of what its start, declaring and a step return.
+// What they mean stands in specs/, and the theorems in proofs/.
 pub mod limits;
 
 use message_rules::TextKind;
 use message_rules::TextOffset;
 use settings::Settings;
 
-// The fragment of a text that was sent last (the papers' place of a text): where it starts, and its length.
+// The fragment of a text that was sent last (the papers' place of a text).
 #[repr(C)]
 pub struct FragmentCursor {
+    // Where it starts in the text.
     pub offset: TextOffset,
+    // Its length.
     pub len: u16,
 }
 
-// What a display keeps of one of its texts: the text's length, and its fragment cursor. The bytes are lent to each step.
+// What a display keeps of one of its texts. The bytes are lent to each step.
 #[repr(C)]
 pub struct TextState {
+    // The text's length.
     pub len: u16,
+    // The fragment of it that was sent last.
     pub cursor: FragmentCursor,
 }
 
-// A display. `size` is the fragment size. The settings, by far the largest part, stand first, where they are cheaper to copy.
+// A display.
+// The settings, by far the largest part, stand first, where they are cheaper to copy.
 #[repr(C)]
 pub struct Display {
+    // What is kept for each code, and the timing.
     pub settings: Settings,
+    // The capabilities string.
     pub capabilities: TextState,
+    // The table.
     pub table: TextState,
+    // The fragment size: the most data bytes of a fragment that it sends.
     pub size: u16,
 }
 
-// What a start and declaring return: the display afterwards, and an answer number.
+// What a start and declaring return.
 #[repr(C)]
 pub struct Changed {
+    // The display afterwards.
     pub display: Display,
+    // The answer number.
     pub answer: u8,
 }
 
-// The fragment that a step found: of which text, and where. Nothing where no fragment is sent.
+// The fragment that a step found.
 pub enum Found {
+    // No fragment is sent.
     Nothing,
+    // The text that it is a part of, and where it stands in it.
     Fragment(TextKind, FragmentCursor),
 }
 
-// What a step returns: the display afterwards, the answer number, the reply's length in the output, and the fragment found.
+// What a step returns.
 pub struct Stepped {
+    // The display afterwards.
     pub display: Display,
+    // The answer number.
     pub answer: u8,
+    // The reply's length in the output, or 0 where no reply is due.
     pub len: usize,
+    // The fragment that was sent.
     pub found: Found,
 }

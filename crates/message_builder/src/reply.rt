@@ -1,4 +1,6 @@
-// Replies: the messages to the host.
+// Builders of replies, the messages to the host.
+// Each puts its message into the output and returns the message's length.
+// A refusal returns its number and leaves the output as it was: 1 for an output under 38 bytes, then 7.
 ghost use mathlib.Core.Bool.{true};
 ghost use lib.Dec.{leb};
 ghost use lib.ListN.{length};
@@ -14,6 +16,8 @@ use message_rules::fields::status_allowed;
 use message_rules::fields::value_allowed;
 use message_rules::limits;
 
+// Builds a Value: result, code, type, maximum and present value.
+// A result or a type above 1 is refused with 7.
 pub fn build_value(
     a: Address,
     result: u8,
@@ -40,6 +44,8 @@ pub fn build_value(
     output::build_if(value_allowed(result, kind), a.seed, &head, out)
 }
 
+// Builds a Timing reply: status, horizontal and vertical frequency.
+// A status with one of its bits 5 to 2 set is refused with 7.
 pub fn build_timing_reply(
     a: Address,
     status: u8,
@@ -62,19 +68,23 @@ pub fn build_timing_reply(
     output::build_if(status_allowed(status), a.seed, &head, out)
 }
 
+// Builds a fragment of the capabilities string: its offset and its data.
+// More than 32 data bytes are refused with 7.
 pub fn build_text_fragment(a: Address, offset: TextOffset, data: &[u8], out: &mut [u8]) -> Built
     ensures { λ r. ⌜ BuildsMessage replies a (textFragment (offset .0) (now («data» .entry))) (now (out .entry)) (now (out .exit)) r ⌝ }
 {
     build_fragment(a, 0xE3, offset, data, out)
 }
 
+// Builds a fragment of the table: its offset and its data.
+// More than 32 data bytes are refused with 7.
 pub fn build_table_fragment(a: Address, offset: TextOffset, data: &[u8], out: &mut [u8]) -> Built
     ensures { λ r. ⌜ BuildsMessage replies a (tableFragment (offset .0) (now («data» .entry))) (now (out .entry)) (now (out .exit)) r ⌝ }
 {
     build_fragment(a, 0xE4, offset, data, out)
 }
 
-// A fragment of either text, by its command number.
+// Builds a fragment of either text, by its command number.
 fn build_fragment(a: Address, number: u8, offset: TextOffset, data: &[u8], out: &mut [u8]) -> Built
     ensures { λ r. ⌜ Builds (leb (length (now («data» .entry))) mostFragment) (fragment a number (offset .0) (now («data» .entry))) (now (out .entry)) (now (out .exit)) r ⌝ }
 {
@@ -92,7 +102,7 @@ fn build_fragment(a: Address, number: u8, offset: TextOffset, data: &[u8], out: 
     output::build(a.seed, &head, data, out)
 }
 
-// The display's null message is a fixed byte string, 6E 80 BE.
+// Builds the display's null message, a fixed byte string: 6E 80 BE.
 pub fn build_null(out: &mut [u8]) -> Built
     ensures { λ r. ⌜ Builds true (null toHost) (now (out .entry)) (now (out .exit)) r ⌝ }
 {

@@ -1,4 +1,6 @@
-// Requests: the messages to the display.
+// Builders of requests, the messages to the display.
+// Each puts its message into the output and returns the message's length.
+// A refusal returns its number and leaves the output as it was: 1 for an output under 38 bytes, then 7.
 ghost use Rattle.message_rules.specs.Message.{requests, getFeature, setFeature, timing, save, text, tableRead, tableWrite};
 ghost use Rattle.message_builder.specs.Output.{BuildsMessage};
 use crate::Built;
@@ -7,6 +9,7 @@ use message_rules::Address;
 use message_rules::TextOffset;
 use message_rules::limits;
 
+// Builds a Get, which asks for the value of a code.
 pub fn build_get(a: Address, code: u8, out: &mut [u8]) -> Built
     ensures { λ r. ⌜ BuildsMessage requests a (getFeature code) (now (out .entry)) (now (out .exit)) r ⌝ }
 {
@@ -14,6 +17,7 @@ pub fn build_get(a: Address, code: u8, out: &mut [u8]) -> Built
     output::build(a.seed, &head, b"", out)
 }
 
+// Builds a Set, which sets a code to a value.
 pub fn build_set(a: Address, code: u8, value: u16, out: &mut [u8]) -> Built
     ensures { λ r. ⌜ BuildsMessage requests a (setFeature code value) (now (out .entry)) (now (out .exit)) r ⌝ }
 {
@@ -28,6 +32,7 @@ pub fn build_set(a: Address, code: u8, value: u16, out: &mut [u8]) -> Built
     output::build(a.seed, &head, b"", out)
 }
 
+// Builds a Timing, which asks for the timing.
 pub fn build_timing(a: Address, out: &mut [u8]) -> Built
     ensures { λ r. ⌜ BuildsMessage requests a timing (now (out .entry)) (now (out .exit)) r ⌝ }
 {
@@ -35,6 +40,7 @@ pub fn build_timing(a: Address, out: &mut [u8]) -> Built
     output::build(a.seed, &head, b"", out)
 }
 
+// Builds a Save, which saves every present value.
 pub fn build_save(a: Address, out: &mut [u8]) -> Built
     ensures { λ r. ⌜ BuildsMessage requests a save (now (out .entry)) (now (out .exit)) r ⌝ }
 {
@@ -42,6 +48,7 @@ pub fn build_save(a: Address, out: &mut [u8]) -> Built
     output::build(a.seed, &head, b"", out)
 }
 
+// Builds a Text, which asks for the fragment of the capabilities string at an offset.
 pub fn build_text(a: Address, offset: TextOffset, out: &mut [u8]) -> Built
     ensures { λ r. ⌜ BuildsMessage requests a (text (offset .0)) (now (out .entry)) (now (out .exit)) r ⌝ }
 {
@@ -55,6 +62,7 @@ pub fn build_text(a: Address, offset: TextOffset, out: &mut [u8]) -> Built
     output::build(a.seed, &head, b"", out)
 }
 
+// Builds a Table read, which asks for the fragment of the table at an offset.
 pub fn build_table_read(a: Address, code: u8, offset: TextOffset, out: &mut [u8]) -> Built
     ensures { λ r. ⌜ BuildsMessage requests a (tableRead code (offset .0)) (now (out .entry)) (now (out .exit)) r ⌝ }
 {
@@ -69,6 +77,8 @@ pub fn build_table_read(a: Address, code: u8, offset: TextOffset, out: &mut [u8]
     output::build(a.seed, &head, b"", out)
 }
 
+// Builds a Table write, which writes data into the table at an offset.
+// More than 31 data bytes are refused with 7.
 pub fn build_table_write(
     a: Address,
     code: u8,

@@ -77,7 +77,8 @@ fn longest_body(direction: Direction) -> usize
     }
 }
 
-// Returns whether a message of n bytes agrees with its slice: a request is the whole of it, behind a reply anything may follow.
+// Returns whether a message of n bytes agrees with its slice.
+// A request is the whole of it; behind a reply anything may follow.
 fn fits_slice(direction: Direction, n: usize, len: usize) -> bool
     ensures { λ r. ⌜ r ≡ fits direction n len ⌝ }
 {
@@ -87,7 +88,8 @@ fn fits_slice(direction: Direction, n: usize, len: usize) -> bool
     }
 }
 
-// Returns the answer of the tests before the command number is looked at: 2, 3, and 4 for a slice that does not agree with its length byte.
+// Returns the answer of the tests before the command number is looked at: 2, 3, and 4.
+// 4 is for a slice that does not agree with its length byte.
 // 0 if none fails.
 pub(crate) fn head_answer(direction: Direction, a: Address, s: &[u8]) -> u8
     ensures { λ r. ⌜ r ≡ headAnswer direction a (now (s .entry)) ⌝ }
@@ -110,7 +112,8 @@ pub(crate) fn head_answer(direction: Direction, a: Address, s: &[u8]) -> u8
     answer::WRONG_LENGTH
 }
 
-// Returns the answer of the frame's tests that are left: 4 for the other form of length byte, then 5. 0 if none fails.
+// Returns the answer of the frame's tests that are left: 4 for the other form of length byte, then 5.
+// It is 0 if none fails.
 // The last byte is compared with the checksum of those in front of it.
 // A sum that is only compared with 0 is not taken several bytes at a time in the compiled code.
 pub(crate) fn tail_answer(a: Address, plain: bool, s: &[u8]) -> u8

@@ -1,5 +1,7 @@
-// Document 01's table of messages. For each direction one `match` on the command number gives its row, which decides the body's length, its fields
-// (by their kind) and the form of the length byte. The tests of the frame take the form from it, those of the body the length and the kind.
+// Document 01's table of messages.
+// For each direction one `match` on the command number gives its row.
+// The row decides the body's length, its fields (by their kind) and the form of the length byte.
+// The tests of the frame take the form from it, those of the body the length and the kind.
 ghost use mathlib.Core.Path.{_≡_};
 ghost use Rattle.message_rules.specs.Layout.{rowOf};
 ghost use Rattle.message_rules.specs.declared.Direction.the-variants.{Request, Reply};
@@ -25,7 +27,8 @@ pub(crate) enum ReplyVerdict {
     Refused(u8),
 }
 
-// The row of a request's command number, for a body of some length: whether the length byte is plain, and the verdict.
+// The row of a request's command number, for a body of some length.
+// It says whether the length byte is plain, and gives the verdict.
 pub(crate) struct RequestRow {
     pub(crate) plain: bool,
     pub(crate) verdict: RequestVerdict,

@@ -1,38 +1,57 @@
 // Document 01's answer numbers, as specs/Answer.antt defines them.
+// The call is done.
 pub const DONE: u8 = 0;
 
+// A lent output has under 38 bytes, or another lent slice has a wrong length.
 pub const WRONG_SIZE: u8 = 1;
 
+// A message has under 3 bytes.
 pub const TOO_SHORT: u8 = 2;
 
+// A message's first byte is wrong.
 pub const WRONG_FIRST_BYTE: u8 = 3;
 
+// A message's length byte is wrong, or the slice does not agree with it.
 pub const WRONG_LENGTH: u8 = 4;
 
+// A message's checksum is wrong.
 pub const WRONG_CHECKSUM: u8 = 5;
 
+// A message's command is not in the table of messages, or a request has no body.
 pub const UNKNOWN_COMMAND: u8 = 6;
 
+// A body's length or a field is wrong for the command, or a builder was given such a field.
 pub const WRONG_FIELD: u8 = 7;
 
+// The code is not allowed here.
 pub const CODE_NOT_ALLOWED: u8 = 8;
 
+// The value is above the code's maximum.
 pub const VALUE_TOO_LARGE: u8 = 9;
 
+// The offset or the fragment is not the one wanted.
 pub const NOT_WANTED: u8 = 10;
 
+// The text is too long for its room.
 pub const TEXT_TOO_LONG: u8 = 11;
 
+// The host read the null message.
 pub const NULL_MESSAGE: u8 = 12;
 
+// The capabilities string is not in the grammar.
 pub const WRONG_GRAMMAR: u8 = 13;
 
+// The capabilities string has a word for which no node is left.
 pub const NO_NODE_ROOM: u8 = 14;
 
+// The capabilities string has groups more than 8 deep.
 pub const TOO_DEEP: u8 = 15;
 
+// The transfer was closed already.
 pub const TRANSFER_CLOSED: u8 = 16;
 
+// The profile is broken.
 pub const BROKEN_PROFILE: u8 = 17;
 
+// The declaration, the fragment size or the budget is not allowed.
 pub const NOT_DECLARABLE: u8 = 18;

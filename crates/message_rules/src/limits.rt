@@ -1,8 +1,9 @@
 // Document 01's limits on messages, as specs/Limits.antt defines them.
 
-// The most bytes of a body, to the display and to the host.
+// The most bytes of a body to the display.
 pub const LONGEST_REQUEST: usize = 35;
 
+// The most bytes of a body to the host.
 pub const LONGEST_REPLY: usize = 35;
 
 // The most data bytes of a Table write.

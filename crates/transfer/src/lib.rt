@@ -21,7 +21,7 @@ use transfer_rules::State;
 use transfer_rules::Transfer;
 use transfer_rules::limits;
 
-// A budget of 0 is closed at once.
+// Returns the state that a transfer begins in: a budget of 0 is closed at once.
 fn first_state(budget: usize) -> State
     ensures { λ r. ⌜ r ≡ firstState budget ⌝ }
 {
@@ -32,7 +32,8 @@ fn first_state(budget: usize) -> State
     }
 }
 
-// Begins a transfer of a text, with the buffer that it fills and a budget of exchanges.
+// Returns a transfer of a text, with the buffer that it will fill and a budget of exchanges.
+// A budget above 65,535 is refused with 18.
 pub fn begin(kind: TextKind, buffer: &[u8], budget: usize) -> Begun
     ensures { λ r. ⌜ r ≡ rules.begin kind (length (now (buffer .entry))) budget ⌝ }
 {
@@ -65,6 +66,7 @@ pub fn begin(kind: TextKind, buffer: &[u8], budget: usize) -> Begun
     }
 }
 
+// Returns what a builder returned as what a request returns.
 fn requested(built: Built) -> Requested
     ensures { λ r. ⌜ r ≡ requestedBy built ⌝ }
 {
@@ -78,6 +80,8 @@ fn requested(built: Built) -> Requested
 }
 
 // Builds the request for the offset that the transfer has reached.
+// Returns the answer and the request's length: 16 where the transfer is closed, 1 for an output under 38 bytes.
+// A request is not counted.
 pub fn request(transfer: Transfer, output: &mut [u8]) -> Requested
     ensures { λ r. ⌜ Requests (rules.request transfer (now (output .entry))) (r .answer) (r .len) (now (output .exit)) ⌝ }
 {
@@ -93,7 +97,9 @@ pub fn request(transfer: Transfer, output: &mut [u8]) -> Requested
     }
 }
 
-// Judges a reply to an open transfer, with the buffer that it began with.
+// Judges a reply to an open transfer, with a buffer of the length that it was begun with.
+// Returns 0 where it is the fragment wanted and has room, 11 where it has none.
+// Another fragment or another kind of reply is 10; what cannot be read gives the reader's answer.
 fn judge(transfer: Transfer, buffer: &mut [u8], reply: &[u8]) -> Received
     requires { ⌜ (transfer .count < transfer .budget) × (length (now buffer) ≡ transfer .size) ⌝ }
     ensures { λ r. ⌜ Receives (rules.judge transfer (now (buffer .entry)) (fragmentOf (transfer .kind) (readReply (now (reply .entry))))) (r .answer) (r .transfer) (now (buffer .exit)) ⌝ }
@@ -114,6 +120,8 @@ fn judge(transfer: Transfer, buffer: &mut [u8], reply: &[u8]) -> Received
 }
 
 // Receives the bytes that came back, with the buffer that the transfer was begun with.
+// Returns the answer and the transfer afterwards, with one exchange more counted.
+// A closed transfer is 16, and a buffer of another length is 1: these count nothing and change nothing.
 pub fn receive(transfer: Transfer, buffer: &mut [u8], reply: &[u8]) -> Received
     ensures { λ r. ⌜ Receives (rules.receive transfer (now (buffer .entry)) (now (reply .entry))) (r .answer) (r .transfer) (now (buffer .exit)) ⌝ }
 {

@@ -1,4 +1,4 @@
-// The steps of a transfer, by value.
+// The steps of a transfer; each takes the transfer by value and returns it changed.
 ghost use mathlib.Core.Path.{_≡_};
 ghost use Prim.Native.Nat.{_<_, min};
 ghost use lib.ListN.{length};
@@ -12,6 +12,7 @@ use transfer_rules::State;
 use transfer_rules::Transfer;
 use transfer_rules::limits;
 
+// Returns whether a transfer is open: it runs, and its count is below its budget.
 pub(crate) fn is_open(transfer: Transfer) -> bool
     ensures { λ r. ⌜ r ≡ isOpen transfer ⌝ }
 {
@@ -24,6 +25,7 @@ pub(crate) fn is_open(transfer: Transfer) -> bool
     }
 }
 
+// Returns the state after an exchange was counted.
 // A transfer that runs is exhausted where its count meets its budget.
 fn exhausted_at(count: u16, budget: u16, state: State) -> State
     ensures { λ r. ⌜ r ≡ exhaustedAt count budget state ⌝ }
@@ -42,7 +44,7 @@ fn exhausted_at(count: u16, budget: u16, state: State) -> State
     }
 }
 
-// The transfer with one exchange more counted.
+// Returns the transfer with one exchange more counted, in this state and at this offset.
 fn counted(transfer: Transfer, state: State, reached: TextOffset) -> Transfer
     requires { ⌜ transfer .count < transfer .budget ⌝ }
     ensures { λ r. ⌜ r ≡ rules.counted transfer state (reached .0) ⌝ }
@@ -60,7 +62,7 @@ fn counted(transfer: Transfer, state: State, reached: TextOffset) -> Transfer
     }
 }
 
-// A reply that is refused is counted, and leaves the rest as it was.
+// Returns a refusal with its number: the exchange is counted, and the rest stays as it was.
 pub(crate) fn refuse(transfer: Transfer, answer: u8) -> Received
     requires { ⌜ transfer .count < transfer .budget ⌝ }
     ensures { λ r. ⌜ (r .answer ≡ answer) × (r .transfer ≡ rules.counted transfer State.Running (transfer .reached .0)) ⌝ }
@@ -73,6 +75,7 @@ pub(crate) fn refuse(transfer: Transfer, answer: u8) -> Received
     }
 }
 
+// Returns how many bytes a transfer may bring: the length of its buffer, at most 4,096.
 fn room(size: usize) -> usize
     ensures { λ r. ⌜ r ≡ min size longestText ⌝ }
 {
@@ -83,7 +86,7 @@ fn room(size: usize) -> usize
     }
 }
 
-// An empty fragment is the end of the text.
+// Returns the state after a fragment of this length was accepted: an empty one is the end of the text.
 fn state_after(len: usize) -> State
     ensures { λ r. ⌜ r ≡ stateAfter len ⌝ }
 {
@@ -94,13 +97,16 @@ fn state_after(len: usize) -> State
     }
 }
 
+// Returns an offset as an index of the buffer.
 fn wide(offset: TextOffset) -> usize
     ensures { λ r. ⌜ (r ≡ offset .0) × (r < 65536) ⌝ }
 {
     offset.0 as usize
 }
 
-// Puts the data of the fragment wanted at the offset reached, if the room has place for them.
+// Puts the data of the fragment wanted into the buffer, at the offset reached.
+// Returns 0 and the transfer behind them.
+// Data past the room are 11: the transfer closes as overflowed, and nothing is put.
 pub(crate) fn accept(transfer: Transfer, buffer: &mut [u8], fragment: &[u8]) -> Received
     requires { ⌜ (transfer .count < transfer .budget) × (length (now buffer) ≡ transfer .size) ⌝ }
     ensures { λ r. ⌜ Receives (rules.accept transfer (now (buffer .entry)) (now (fragment .entry))) (r .answer) (r .transfer) (now (buffer .exit)) ⌝ }

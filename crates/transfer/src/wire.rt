@@ -13,13 +13,16 @@ use message_rules::TextKind;
 use message_rules::TextOffset;
 use message_rules::answer;
 
-// What reading a fragment of one kind comes to: its offset, where its data start in the slice, and how many they are.
+// What reading a fragment of one kind returns.
 pub(crate) enum FragmentRead {
+    // Its offset, where its data start in the slice, and how many they are.
     Found(TextOffset, Position, usize),
+    // The answer number of a refusal.
     Refused(u8),
 }
 
-// Builds the request for the fragment at an offset.
+// Builds the request for the fragment of a text at an offset.
+// Returns its length, or 1 where the output has under 38 bytes.
 pub(crate) fn build(kind: TextKind, offset: TextOffset, output: &mut [u8]) -> Built
     ensures { λ r. ⌜ Builds true (requestMessage kind (offset .0)) (now (output .entry)) (now (output .exit)) r ⌝ }
 {
@@ -34,7 +37,7 @@ pub(crate) fn build(kind: TextKind, offset: TextOffset, output: &mut [u8]) -> Bu
     }
 }
 
-// A reply of another kind is not wanted.
+// Returns the fragment that was read, if it is one of this text; any other reply is refused with 10.
 fn of_kind(kind: TextKind, found: ReplyRead) -> FragmentRead
     ensures { λ r. ⌜ r ≡ ofKind kind found ⌝ }
 {
@@ -53,7 +56,7 @@ fn of_kind(kind: TextKind, found: ReplyRead) -> FragmentRead
     }
 }
 
-// Reads the fragment of a kind in the bytes that came back.
+// Returns the fragment of this text in the bytes that came back, or a refusal.
 pub(crate) fn read_fragment(kind: TextKind, s: &[u8]) -> FragmentRead
     ensures { λ r. ⌜ FragmentMeans (now (s .entry)) r (fragmentOf kind (readReply (now (s .entry)))) ⌝ }
 {

@@ -9,14 +9,16 @@ use message_rules::TO_DISPLAY;
 use message_rules::TO_HOST;
 use message_rules::TextOffset;
 
-// What every byte of an output is before.
+// What every byte of an output is before a message is built into it.
 pub(crate) const BLANK: u8 = 0xA5;
 
-// The bytes of output that every builder needs, written down once more, and an output with bytes behind every message.
+// The bytes of output that every builder needs, written down once more.
 pub(crate) const ROOM: usize = 38;
 
+// An output that has bytes left behind every message.
 pub(crate) const WIDE: usize = 44;
 
+// Builds the reply with these fields and data by the library, the null message where the command is no reply's.
 fn build_reply(f: Fields, data: &[u8], out: &mut [u8]) -> Built {
     let command = f.0;
     match command {
@@ -28,6 +30,7 @@ fn build_reply(f: Fields, data: &[u8], out: &mut [u8]) -> Built {
     }
 }
 
+// Builds the message with these fields and data by the library.
 fn build(f: Fields, data: &[u8], out: &mut [u8]) -> Built {
     let command = f.0;
     match command {
@@ -42,7 +45,7 @@ fn build(f: Fields, data: &[u8], out: &mut [u8]) -> Built {
     }
 }
 
-// Whether every byte from index `at` on is still blank.
+// Returns whether every byte from index `at` on is still blank.
 fn blank_from(out: &[u8], at: usize) -> bool {
     let mut i = at;
     while i < out.len() {
@@ -54,7 +57,7 @@ fn blank_from(out: &[u8], at: usize) -> bool {
     true
 }
 
-// Whether an output that was blank holds exactly the bytes s in front, and no other byte changed.
+// Returns whether an output that was blank holds exactly the bytes s in its first n, and no other byte changed.
 fn holds(out: &[u8], n: usize, s: &[u8]) -> bool {
     if check::same(fields::part(out, 0, n), s) {
         return blank_from(out, n);
@@ -62,7 +65,7 @@ fn holds(out: &[u8], n: usize, s: &[u8]) -> bool {
     false
 }
 
-// Whether what was built has this answer: 0 with exactly the bytes s, or a refusal that changed nothing.
+// Returns whether what was built has this answer: 0 with exactly the bytes s, or a refusal that changed nothing.
 fn judged(built: Built, s: &[u8], expected: u8, out: &[u8]) -> bool {
     match built {
         Built::Done(n) => expected == number::DONE && holds(out, n, s),
@@ -70,7 +73,7 @@ fn judged(built: Built, s: &[u8], expected: u8, out: &[u8]) -> bool {
     }
 }
 
-// Whether building into this blank output gives this answer.
+// Returns whether building into this blank output gives this answer, and leaves what it should.
 pub(crate) fn builds(f: Fields, data: &[u8], s: &[u8], expected: u8, out: &mut [u8]) -> bool {
     let built = build(f, data, out);
     judged(built, s, expected, out)

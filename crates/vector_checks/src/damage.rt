@@ -6,7 +6,7 @@ use crate::reader;
 use crate::tally::Tally;
 use crate::vector;
 
-// The bit that a length byte has beside n: none in a reply whose body begins with 4E.
+// Returns the bit that a length byte has beside n: none in a reply whose body begins with 4E, else 80.
 pub(crate) fn form(to_host: bool, n: u8, command: u8) -> u8 {
     if to_host && command == 0x4E && n != 0 {
         return 0;
@@ -14,8 +14,7 @@ pub(crate) fn form(to_host: bool, n: u8, command: u8) -> u8 {
     0x80
 }
 
-// Document 01's answer to bytes whose checksum is wrong: the tests in front of it are 2, 3 and 4. A request is the whole slice; behind a
-// reply anything may follow.
+// Returns document 01's answer to bytes whose checksum is wrong: the tests in front of it are 2, 3 and 4.
 fn flawed(to_host: bool, s: &[u8]) -> u8 {
     if s.len() < 3 {
         return number::TOO_SHORT;
@@ -31,7 +30,8 @@ fn flawed(to_host: bool, s: &[u8]) -> u8 {
     number::WRONG_LENGTH
 }
 
-// Whether a length byte is right for a slice of so many bytes, and in front of this command.
+// Returns whether a length byte is right for a slice of so many bytes, and in front of this command.
+// A request is the whole slice; behind a reply anything may follow.
 fn right_length(to_host: bool, size: usize, byte: u8, command: u8) -> bool {
     let n = byte % 128;
     if byte != n ^ form(to_host, n, command) || n > number::LONGEST_BODY {
@@ -44,12 +44,13 @@ fn right_length(to_host: bool, size: usize, byte: u8, command: u8) -> bool {
     size == length
 }
 
-// Whether the reader's answer to bytes whose checksum is wrong is that one.
+// Returns whether the reader gives bytes whose checksum is wrong document 01's answer.
 fn refused(to_host: bool, s: &[u8]) -> bool {
     reader::answer(to_host, s) == flawed(to_host, s)
 }
 
-// The byte at index i changed to every other value, and put back. No such change keeps the checksum.
+// Returns the tally of the byte at index i changed to every other value; it is put back.
+// No such change keeps the checksum.
 fn changed_byte(to_host: bool, s: &mut [u8], i: usize) -> Tally {
     let mut sum = Tally(0, 0);
     if s.len() <= i {
@@ -67,7 +68,7 @@ fn changed_byte(to_host: bool, s: &mut [u8], i: usize) -> Tally {
     sum
 }
 
-// Each byte changed, and the slice cut in front of it.
+// Returns the tally of each byte changed, and of the slice cut in front of each.
 fn changed(to_host: bool, s: &mut [u8]) -> Tally {
     let mut sum = Tally(0, 0);
     for i in 0..s.len() {
@@ -78,6 +79,7 @@ fn changed(to_host: bool, s: &mut [u8]) -> Tally {
     sum
 }
 
+// Returns whether the reader answers a slice with one byte more as it should.
 // A byte behind a request is 4; one behind a reply is ignored.
 fn longer_holds(to_host: bool, longer: &[u8], answer: u8) -> bool {
     if to_host {
@@ -86,8 +88,9 @@ fn longer_holds(to_host: bool, longer: &[u8], answer: u8) -> bool {
     reader::answer(false, longer) == number::WRONG_LENGTH
 }
 
-// All of them for one message that is read with this answer; none for bytes that no builder makes. Where there is no room for one byte more,
-// that counts as one vector that fails.
+// Returns the tally of all damaged variants of one message that is read with this answer.
+// There are none of bytes that no builder makes.
+// Where there is no room for one byte more, that counts as one vector that fails.
 pub fn variants(to_host: bool, s: &[u8], answer: u8) -> Tally {
     let mut space = [builder::BLANK; builder::WIDE];
     let room: &mut [u8] = &mut space;

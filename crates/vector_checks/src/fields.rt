@@ -7,11 +7,13 @@ ghost use Rattle.message_rules.specs.declared.Direction.the-variants.{Request, 
 ghost use Rattle.vector_checks.specs.Fields.{partOf, gathered};
 ghost use Rattle.vector_checks.specs.Shape.{shapeOf};
 
-// The fields of a message: its command number, at most three single bytes and two 16-bit words, each 0 where it has none. Data stand apart.
+// The fields of a message: its command number, at most three single bytes, and at most two 16-bit words.
+// A field that it does not have is 0. Data stand apart.
 pub struct Fields(pub u8, pub u8, pub u8, pub u8, pub u16, pub u16);
 
-// A row of document 01's table: whether the command is in it, whether the message is a reply, how many single bytes and how many bytes of
-// words it has, and how much data at most.
+// A row of document 01's table, in this order:
+// whether the command is in the table, and whether the message is a reply;
+// how many single bytes it has, how many bytes of words, and how much data at most.
 pub struct Shape(pub bool, pub bool, pub u8, pub u8, pub u8);
 
 // Returns the row of a command number. The table is written down once more, and proved to be message_rules' table.
@@ -35,7 +37,7 @@ pub fn layout(command: u8) -> Shape
     }
 }
 
-// The bytes of s from `start` to `end`, or none where it has no such part.
+// Returns the bytes of s from `start` to `end`, or none where it has no such part.
 pub fn part(s: &[u8], start: usize, end: usize) -> &[u8]
     ensures { λ r. ⌜ now r ≡ partOf (now (s .entry)) start end ⌝ }
 {
@@ -48,7 +50,7 @@ pub fn part(s: &[u8], start: usize, end: usize) -> &[u8]
     &s[start..end]
 }
 
-// The byte at an index, or 0 past the end.
+// Returns the byte at an index, or 0 past the end.
 pub fn octet(s: &[u8], at: usize) -> u8
     ensures { λ r. ⌜ r ≡ getD (now (s .entry)) at 0 ⌝ }
 {
@@ -58,19 +60,21 @@ pub fn octet(s: &[u8], at: usize) -> u8
     0
 }
 
+// Returns a byte as a 16-bit number.
 fn wide(x: u8) -> u16
     ensures { λ r. ⌜ (r ≡ x) × (r < 256) ⌝ }
 {
     x as u16
 }
 
+// Returns the 16-bit number of a high and a low byte.
 pub fn word(high: u8, low: u8) -> u16
     ensures { λ r. ⌜ r ≡ high * 256 + low ⌝ }
 {
     wide(high) * 256 + wide(low)
 }
 
-// The fields from the single bytes and the words of a message, the high byte of each word first.
+// Returns the fields from the single bytes and the words of a message, the high byte of each word first.
 pub fn gather(command: u8, b: &[u8], w: &[u8]) -> Fields
     ensures { λ r. ⌜ r ≡ gathered command (now (b .entry)) (now (w .entry)) ⌝ }
 {
@@ -86,6 +90,7 @@ pub fn gather(command: u8, b: &[u8], w: &[u8]) -> Fields
     )
 }
 
+// Returns whether all fields are the same.
 pub(crate) fn same(f: Fields, g: Fields) -> bool {
     if f.0 != g.0 || f.1 != g.1 || f.2 != g.2 {
         return false;

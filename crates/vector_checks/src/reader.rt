@@ -9,18 +9,20 @@ use message_reader::request;
 use message_rules::TO_DISPLAY;
 use message_rules::TO_HOST;
 
-// A reading: the answer number, the fields, where data start and how many they are.
+// A reading: the answer number, the fields, where data start in the slice, and how many they are.
 struct Reading(u8, Fields, usize, usize);
 
-// A message with one byte and one word at most, and data at this place.
+// Returns the reading of a message with at most one byte and one word, and data at this index.
 fn message(command: u8, byte: u8, word: u16, at: usize, len: usize) -> Reading {
     Reading(0, Fields(command, byte, 0, 0, word, 0), at, len)
 }
 
+// Returns the reading of a message that is refused.
 fn refused(number: u8) -> Reading {
     Reading(number, Fields(0, 0, 0, 0, 0, 0), 0, 0)
 }
 
+// Returns what the library read from a request, as a reading.
 fn of_request(read: RequestRead) -> Reading {
     match read {
         RequestRead::Get(code) => message(0x01, code, 0, 0, 0),
@@ -39,6 +41,7 @@ fn of_request(read: RequestRead) -> Reading {
     }
 }
 
+// Returns what the library read from a reply, as a reading.
 fn of_reply(read: ReplyRead) -> Reading {
     match read {
         ReplyRead::Value {
@@ -59,7 +62,8 @@ fn of_reply(read: ReplyRead) -> Reading {
     }
 }
 
-// Of a reply, the reader of any address and that of the display must agree on the answer.
+// Returns what the library reads from these bytes.
+// Of a reply, the reader for any address and that of the display must agree on the answer.
 fn read(to_host: bool, s: &[u8]) -> Reading {
     if to_host {
         let any = of_reply(reply::read_reply(TO_HOST, s));
@@ -72,12 +76,12 @@ fn read(to_host: bool, s: &[u8]) -> Reading {
     of_request(request::read_request(TO_DISPLAY, s))
 }
 
-// The answer number of a reading.
+// Returns the answer number of reading these bytes.
 pub(crate) fn answer(to_host: bool, s: &[u8]) -> u8 {
     read(to_host, s).0
 }
 
-// Whether the `len` bytes at this position are the data.
+// Returns whether the `len` bytes from index `at` on are the data.
 fn part_is(s: &[u8], at: usize, len: usize, data: &[u8]) -> bool {
     if s.len() < at {
         return false;
@@ -89,7 +93,7 @@ fn part_is(s: &[u8], at: usize, len: usize, data: &[u8]) -> bool {
     check::same(&rest[0..len], data)
 }
 
-// Whether reading these bytes gives this answer, and with answer 0 the message with these fields and data.
+// Returns whether reading these bytes gives this answer, and with answer 0 the message with these fields and data.
 pub(crate) fn reads(f: Fields, data: &[u8], s: &[u8], expected: u8) -> bool {
     let r = read(fields::layout(f.0).1, s);
     if r.0 != expected {

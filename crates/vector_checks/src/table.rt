@@ -5,7 +5,8 @@ use crate::number;
 use crate::reader;
 use crate::tally::Tally;
 
-// The answer to a message of n bytes, this command and zeros, with this length byte; `flaw` is what its checksum is wrong by.
+// Returns the reader's answer to a message with this length byte and a body of n bytes: this command and zeros.
+// `flaw` is what its checksum is wrong by.
 fn framed(to_host: bool, length: u8, command: u8, n: u8, flaw: u8) -> u8 {
     let end = n as usize + 2;
     let first = if to_host { 0x6E } else { 0x51 };
@@ -18,7 +19,8 @@ fn framed(to_host: bool, length: u8, command: u8, n: u8, flaw: u8) -> u8 {
     reader::answer(to_host, fields::part(&s, 0, end + 1))
 }
 
-// The table's answer to a body of n bytes, this command and zeros, with the right length byte and checksum. Zeros are allowed in every field.
+// Returns the table's answer to a body of n bytes, this command and zeros, with the right length byte and checksum.
+// Zeros are allowed in every field.
 fn expected(to_host: bool, command: u8, n: u8) -> u8 {
     let shape = fields::layout(command);
     if !shape.0 || shape.1 != to_host {
@@ -33,7 +35,9 @@ fn expected(to_host: bool, command: u8, n: u8) -> u8 {
     number::DONE
 }
 
-// The right message, the same with a wrong checksum (5), and with the other form of length byte (4). Bodies above 35 bytes are always 4.
+// Returns the tally of one command with every length.
+// Each is tried with the right message, with a wrong checksum (5), and with the other form of length byte (4).
+// Bodies above 35 bytes are always 4.
 fn lengths(to_host: bool, command: u8) -> Tally {
     let mut sum = Tally(0, 0);
     for n in 1..128u8 {
@@ -58,6 +62,7 @@ fn lengths(to_host: bool, command: u8) -> Tally {
     sum
 }
 
+// Returns the tally of every command number with every length, for one direction.
 pub fn all(to_host: bool) -> Tally {
     let mut sum = Tally(0, 0);
     for command in 0..=255u8 {

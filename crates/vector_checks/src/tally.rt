@@ -1,10 +1,12 @@
-// How many vectors hold, and how many were tried.
+// Counting vectors.
 ghost use mathlib.Core.Path.{_≡_};
 ghost use Rattle.vector_checks.specs.Tally.{counted, joined};
 
+// How many vectors hold, and how many were tried.
 pub struct Tally(pub u32, pub u32);
 
 impl Tally {
+    // Returns the tally with one vector more.
     pub fn count(self, holds: bool) -> Tally
         ensures { λ r. ⌜ r ≡ counted self holds ⌝ }
     {
@@ -15,6 +17,7 @@ impl Tally {
         Tally(self.0, tried)
     }
 
+    // Returns the sum of two tallies.
     pub fn join(self, other: Tally) -> Tally
         ensures { λ r. ⌜ r ≡ joined self other ⌝ }
     {

@@ -6,7 +6,8 @@ use crate::number;
 use crate::reader;
 use crate::tally::Tally;
 
-// The builder's answer to fields whose message is read with this answer: 7 for fields that are not allowed. The null message is built.
+// Returns the builder's answer to fields whose message is read with this answer: 7 for fields that are not allowed.
+// The null message is built.
 pub(crate) fn builder_answer(answer: u8) -> u8 {
     if answer == number::DONE || answer == number::NULL_MESSAGE {
         return number::DONE;
@@ -14,6 +15,7 @@ pub(crate) fn builder_answer(answer: u8) -> u8 {
     number::WRONG_FIELD
 }
 
+// Returns whether a vector holds: the bytes are built from the fields and data, and read back to them.
 // The output that a reply was built into has other bytes behind it, and is read too.
 pub fn holds(f: Fields, data: &[u8], s: &[u8], answer: u8) -> bool {
     let mut space = [builder::BLANK; builder::WIDE];
@@ -30,7 +32,8 @@ pub fn holds(f: Fields, data: &[u8], s: &[u8], answer: u8) -> bool {
     reader::reads(f, data, s, answer)
 }
 
-// 37 bytes of output are 1 before any field is judged, and 38 are enough for every message.
+// Returns the tally of building into outputs of 37 and 38 bytes.
+// 37 bytes are 1 before any field is judged, and 38 are enough for every message.
 pub fn room(f: Fields, data: &[u8], s: &[u8], answer: u8) -> Tally {
     let mut narrow = [builder::BLANK; builder::ROOM - 1];
     let mut enough = [builder::BLANK; builder::ROOM];
@@ -39,12 +42,13 @@ pub fn room(f: Fields, data: &[u8], s: &[u8], answer: u8) -> Tally {
     Tally(0, 0).count(refused).count(built)
 }
 
-// Whether the reader's answer to these bytes is this one.
+// Returns whether the reader's answer to these bytes is this one.
 pub fn answers(to_host: bool, s: &[u8], answer: u8) -> bool {
     reader::answer(to_host, s) == answer
 }
 
-// A message of which only the reader's answer is judged, so that it has no fields.
+// Returns the tally of a message of which only the reader's answer is judged.
+// Such a message has no fields; where some are given, nothing is counted.
 pub fn reading(to_host: bool, f: &[u8], s: &[u8], answer: u8) -> Tally {
     if f.len() != 0 {
         return Tally(0, 0);

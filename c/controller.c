@@ -78,7 +78,7 @@ static void write_ended(void) {
     display = step.display;
     reply_length = step.length;
     reply_at = 0;
-    follow(ddcci_display_asked(step.answer, message));
+    follow(ddcci_display_asked(step.answer, message, message_length));
     message_length = 0;
 }
 

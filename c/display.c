@@ -48,7 +48,7 @@ static ddcci_display answer(ddcci_display display, const char *what, const uint8
     if (step.sent != DDCCI_DISPLAY_SENT_NOTHING) {
         printf("  %zu bytes from %zu of text %d\n", step.count, step.offset, step.sent - 1);
     }
-    act(step.display, ddcci_display_asked(step.answer, message));
+    act(step.display, ddcci_display_asked(step.answer, message, length));
     return step.display;
 }
 

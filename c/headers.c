@@ -17,7 +17,7 @@ static ddcci_display show(ddcci_display display, const uint8_t *message, size_t 
     uint8_t out[DDCCI_OUTPUT_ROOM];
     ddcci_display_stepped step = ddcci_display_step(display, text, sizeof text - 1, table, sizeof table,
                                                     message, length, out, sizeof out);
-    ddcci_display_request asked = ddcci_display_asked(step.answer, message);
+    ddcci_display_request asked = ddcci_display_asked(step.answer, message, length);
     ddcci_request_read read = ddcci_read_request(message, length);
     printf("answer %u: command %02X, code %02X, value %u; ", step.answer, asked.command, asked.code, asked.value);
     printf("read: %u, %02X, %02X, %u\n", read.answer, read.command, read.code, read.word);

@@ -148,6 +148,7 @@ DDCCI_ASSERT_SIZE(ddcci_display_changed, 1728);
 DDCCI_ASSERT_SIZE(ddcci_display_stepped, 1760);
 DDCCI_ASSERT_SIZE(ddcci_display_written, 16);
 DDCCI_ASSERT_SIZE(ddcci_display_loaded, 1736);
+DDCCI_ASSERT_SIZE(ddcci_display_request, 4);
 
 /* Returns a display with a timing, a capabilities string of at most 4,096 bytes and fragments of 1 to 32
  * bytes, and no code declared yet; or an empty display and 18 for the timing, 11 for the string, 18 for the
@@ -183,25 +184,8 @@ ddcci_display_loaded ddcci_display_load_profile(ddcci_display display, const uin
 
 /* Returns what a message asked for, given the answer of its step: so a controller learns which code was set,
  * also of a momentary one, whose value is not stored, and that a Save or a Table write came. A message that
- * was refused asked for nothing: all is 0. */
-DDCCI_INLINE ddcci_display_request ddcci_display_asked(uint8_t answer, const uint8_t *message) {
-    ddcci_display_request asked = {0, 0, 0};
-    if (answer != DDCCI_ANSWER_DONE) return asked;
-    asked.command = message[2];
-    switch (asked.command) {
-    case DDCCI_COMMAND_SET:
-        asked.value = (uint16_t)(message[4] << 8 | message[5]);
-        /* fall through */
-    case DDCCI_COMMAND_GET:
-    case DDCCI_COMMAND_TABLE_READ:
-    case DDCCI_COMMAND_TABLE_WRITE:
-        asked.code = message[3];
-        break;
-    default:
-        break;
-    }
-    return asked;
-}
+ * was refused asked for nothing: all is 0. So it is for one too short for its command, or with none. */
+ddcci_display_request ddcci_display_asked(uint8_t answer, const uint8_t *message, size_t message_length);
 
 #ifdef __cplusplus
 }

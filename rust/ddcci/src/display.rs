@@ -56,6 +56,69 @@ pub struct Step {
     pub found: Option<(TextKind, Range<usize>)>,
 }
 
+/// What an accepted message asked for.
+#[derive(Debug, Clone, Copy, PartialEq, Eq)]
+pub enum Asked {
+    /// The value of a code.
+    Get {
+        /// The VCP code.
+        code: u8,
+    },
+    /// A new value of a code.
+    Set {
+        /// The VCP code.
+        code: u8,
+        /// Its new value.
+        value: u16,
+    },
+    /// The timing.
+    Timing,
+    /// That the present values be saved.
+    Save,
+    /// A fragment of the capabilities string.
+    Text,
+    /// A fragment of the table.
+    TableRead {
+        /// The table's VCP code.
+        code: u8,
+    },
+    /// That bytes be written into the table.
+    TableWrite {
+        /// The table's VCP code.
+        code: u8,
+    },
+}
+
+impl Step {
+    /// Returns what the message of this step asked for: which code was set, also of a momentary one, whose value is
+    /// not stored, or that a Save or a Table write came. A message that was refused asked for nothing.
+    ///
+    /// ```
+    /// # use ddcci::{Asked, Display, Request, Timing, OUTPUT_ROOM, TABLE_ROOM};
+    /// # let mut display = Display::start(Timing::default(), b"", 32)?;
+    /// # let (mut table, mut out) = ([0; TABLE_ROOM], [0; OUTPUT_ROOM]);
+    /// let save = Request::Save.to_bytes()?;
+    /// let step = display.step(b"", &mut table, &save, &mut out);
+    /// assert_eq!(step.asked(&save), Some(Asked::Save));
+    /// # Ok::<(), ddcci::Refusal>(())
+    /// ```
+    pub fn asked(&self, message: &[u8]) -> Option<Asked> {
+        let answer = self.answer.err().map_or(0, Refusal::number);
+        // SAFETY: pointer and length are those of one slice, which is only read during the call.
+        let r = unsafe { raw::ddcci_display_asked(answer, message.as_ptr(), message.len()) };
+        Some(match r.command {
+            0x01 => Asked::Get { code: r.code },
+            0x03 => Asked::Set { code: r.code, value: r.value },
+            0x07 => Asked::Timing,
+            0x0C => Asked::Save,
+            0xF3 => Asked::Text,
+            0xE2 => Asked::TableRead { code: r.code },
+            0xE7 => Asked::TableWrite { code: r.code },
+            _ => return None,
+        })
+    }
+}
+
 /// A display. Its capabilities string and its table are lent to each step.
 ///
 /// ```
@@ -134,8 +197,7 @@ impl Display {
     /// Lent are the capabilities string at its starting length, the table's buffer of [`TABLE_ROOM`] bytes as the last
     /// step left it, and an output of at least [`crate::OUTPUT_ROOM`] bytes.
     ///
-    /// Where the answer is `Ok`, [`crate::Request::read`] of the same message tells what was done: which code was set,
-    /// also of a momentary one, whose value is not stored, or that a Save or a Table write came.
+    /// [`Step::asked`] tells afterwards what the message was for.
     #[inline]
     pub fn step(&mut self, text: &[u8], table: &mut [u8], message: &[u8], out: &mut [u8]) -> Step {
         // SAFETY: each pointer and its length are those of one slice; the table and the output are borrowed for writing

@@ -16,7 +16,7 @@ mod refusal;
 mod transfer;
 
 pub use capabilities::{read_capabilities_into, Capabilities, Node, Nodes, MOST_NODES};
-pub use display::{Declaration, Display, Step, Timing, LONGEST_PROFILE, TABLE_ROOM};
+pub use display::{Asked, Declaration, Display, Step, Timing, LONGEST_PROFILE, TABLE_ROOM};
 pub use message::{checksum, Message, Reply, Request, MOST_FRAGMENT, MOST_WRITTEN, OUTPUT_ROOM};
 pub use refusal::{Refusal, RefusedAt};
 pub use transfer::{State, TextKind, Transfer, Unfinished};

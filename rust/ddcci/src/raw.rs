@@ -199,6 +199,15 @@ pub struct DisplayLoaded {
     pub position: usize,
 }
 
+/// What a message asked for. What it does not have is 0.
+#[repr(C)]
+#[derive(Clone, Copy)]
+pub struct DisplayAsked {
+    pub command: u8,
+    pub code: u8,
+    pub value: u16,
+}
+
 extern "C" {
     pub fn ddcci_display_start(
         timing: Timing,
@@ -220,6 +229,7 @@ extern "C" {
         out: *mut u8,
         out_length: usize,
     ) -> DisplayStepped;
+    pub fn ddcci_display_asked(answer: u8, message: *const u8, message_length: usize) -> DisplayAsked;
     pub fn ddcci_display_write_profile(display: Display, out: *mut u8, out_length: usize) -> Built;
     pub fn ddcci_display_load_profile(display: Display, profile: *const u8, profile_length: usize) -> DisplayLoaded;
 }
@@ -242,4 +252,5 @@ const _: () = {
     has_size::<DisplayChanged>(1728);
     has_size::<DisplayStepped>(1760);
     has_size::<DisplayLoaded>(1736);
+    has_size::<DisplayAsked>(4);
 };

@@ -2,7 +2,7 @@
 //! messages, whole and damaged.
 mod common;
 use common::rounds;
-use ddcci::{Declaration, Display, Request, TextKind, Timing, LONGEST_PROFILE, OUTPUT_ROOM, TABLE_ROOM};
+use ddcci::{Asked, Declaration, Display, Request, Step, TextKind, Timing, LONGEST_PROFILE, OUTPUT_ROOM, TABLE_ROOM};
 use oracle::display as slow;
 use oracle::line::Random;
 use oracle::profile;
@@ -57,6 +57,20 @@ fn message(r: &mut Random, reached: u16) -> Vec<u8> {
     bytes
 }
 
+/// What an accepted message asked for, by the host's reader.
+fn asked_by_reading(step: &Step, message: &[u8]) -> Option<Asked> {
+    step.answer.ok()?;
+    Some(match Request::read(message).ok()? {
+        Request::Get { code } => Asked::Get { code },
+        Request::Set { code, value } => Asked::Set { code, value },
+        Request::Timing => Asked::Timing,
+        Request::Save => Asked::Save,
+        Request::Text { .. } => Asked::Text,
+        Request::TableRead { code, .. } => Asked::TableRead { code },
+        Request::TableWrite { code, .. } => Asked::TableWrite { code },
+    })
+}
+
 #[test]
 fn random_histories() {
     let mut r = Random::new(7);
@@ -70,6 +84,7 @@ fn random_histories() {
             let step = ours.step(TEXT, &mut a, &message, &mut x);
             let (answer, length, fragment) = theirs.step_fragment(TEXT, &mut b, &message, &mut y);
             assert_eq!((number(step.answer), step.length), (answer, length), "{message:02X?}");
+            assert_eq!(step.asked(&message), asked_by_reading(&step, &message), "{message:02X?}");
             let found = match &step.found {
                 None => &[][..],
                 Some((TextKind::Capabilities, place)) => &TEXT[place.clone()],

@@ -184,7 +184,8 @@ ddcci_display_loaded ddcci_display_load_profile(ddcci_display display, const uin
 
 /* Returns what a message asked for, given the answer of its step: so a controller learns which code was set,
  * also of a momentary one, whose value is not stored, and that a Save or a Table write came. A message that
- * was refused asked for nothing: all is 0. So it is for one too short for its command, or with none. */
+ * was refused asked for nothing: all is 0. So did one that is too short for its command, or has an unknown
+ * one, whatever answer is given. */
 ddcci_display_request ddcci_display_asked(uint8_t answer, const uint8_t *message, size_t message_length);
 
 #ifdef __cplusplus

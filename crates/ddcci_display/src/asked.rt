@@ -56,7 +56,8 @@ fn code_asked(command: u8, least: usize, message: &[u8]) -> DisplayAsked
     asked_of(0, 0, 0)
 }
 
-// Returns the command, the code and the value of a Set, whose high byte stands first; all 0 where the message is shorter than its fields.
+// Returns the command, the code and the value of a Set, whose high byte stands first.
+// All is 0 where the message is shorter than its fields.
 fn set_asked(message: &[u8]) -> DisplayAsked
     ensures { λ r. ⌜ r ≡ cond (leb 6 (length (now (message .entry)))) (asked 0x03 (getD (now (message .entry)) 3 0) (word (now (message .entry)) 4)) nothingAsked ⌝ }
 {
@@ -67,7 +68,8 @@ fn set_asked(message: &[u8]) -> DisplayAsked
     asked_of(0, 0, 0)
 }
 
-// Returns what a message with a command number asked for, by the row of that number; all 0 for a number that has no row.
+// Returns what a message with this command number asked for, by the row of the number.
+// All is 0 for a number that has no row.
 fn by_command(command: u8, message: &[u8]) -> DisplayAsked
     ensures { λ r. ⌜ r ≡ rowAsked (rowOf Request command) (now (message .entry)) ⌝ }
 {
@@ -90,8 +92,8 @@ fn by_command(command: u8, message: &[u8]) -> DisplayAsked
     }
 }
 
-// Returns what a message asked for, given the answer of its step. All is 0 where the answer is not 0, where the message is
-// too short for its command, and where the command is not in the table.
+// Returns what a message asked for, given the answer of its step.
+// All is 0 where the answer is not 0, the message is too short for its command, or the command is not in the table.
 #[no_mangle]
 pub extern "C" fn ddcci_display_asked(answer: u8, message: &[u8]) -> DisplayAsked
     ensures { λ r. ⌜ r ≡ askedOf answer (now (message .entry)) ⌝ }

@@ -1,9 +1,6 @@
 -- `ddcci_display::asked::ddcci_display_asked` meets its contract: the answer, then the length, then the command number.
 -- Assumes nothing.
 use native.Mathlib.Omega.{arith}
-use lib.ListN.{length}
-use borrow.Author.Tests.{le-leb, lt-leb, ne-eqb}
-use Rattle.ddcci_display.specs.Asked.{askedOf}
 use Rattle.ddcci_display.proofs.Tells.{refused, short, known}
 use mathlib.Core.Path.{sym, _∙_}
 use borrow.Author.Needs.{needs}

@@ -1,10 +1,10 @@
 -- Bytes put into a buffer: nothing, from its start on, and one run behind another.
-use mathlib.Core.Path.{_≡_, sym, ap, ap₂, _∙_}
+use mathlib.Core.Path.{_≡_, refl, sym, ap, ap₂, _∙_}
 use mathlib.Core.List.{List, [], _++_, append-assoc}
 use Prim.Native.Nat.{ℕ, _+_, _≤_}
 use native.Mathlib.Omega.{arith}
 use lib.ListN.{length, take, drop, length-append, length-drop, take-append-drop}
-use lib.Seq.{take-at, drop-append-add, drop-drop, length-take-le}
+use lib.Seq.{take-at, drop-at, drop-append-add, drop-drop, length-take-le}
 use Rattle.buffers.specs.Buffers.{over, put}
 
 -- nothing put
@@ -32,3 +32,10 @@ put-next out at a b h =
     ∙ ap₂ (λ (x y : List ℕ). x ++ (b ++ y)) (take-at p rest (at + length a) l) left
     ∙ append-assoc (take at out) a (b ++ drop (at + length (a ++ b)) out)
     ∙ ap (λ (x : List ℕ). take at out ++ x) (sym (append-assoc a b (drop (at + length (a ++ b)) out)))
+
+-- one run behind another, by the part of the output that it goes into
+pub over-next : (out x y : List ℕ) → take (length x) (over x out) ++ over y (drop (length x) (over x out)) ≡ over (x ++ y) out
+over-next out x y =
+    ap₂ (λ (p q : List ℕ). p ++ (y ++ drop (length y) q)) (take-at x (drop (length x) out) (length x) refl) (drop-at x (drop (length x) out) (length x) refl)
+    ∙ sym (append-assoc x y _)
+    ∙ ap (λ (q : List ℕ). (x ++ y) ++ q) (drop-drop (length y) (length x) out ∙ ap (λ (n : ℕ). drop n out) (sym (length-append x y)))

@@ -12,7 +12,8 @@ use Rattle.capabilities_rules.specs.Grammar.{Node}
 use Rattle.capabilities_rules.specs.Machine.{before, after}
 use Rattle.capabilities_rules.specs.Outcome.{outcome}
 use Rattle.capabilities_rules.specs.Nodes.{nodes, nodesOf}
-use Rattle.capabilities_rules.specs.Buffers.{Buffers, buffers, bufferRoom, over, written}
+use Rattle.buffers.specs.Buffers.{over}
+use Rattle.capabilities_rules.specs.Buffers.{Buffers, buffers, bufferRoom, written}
 use Rattle.capabilities_rules.specs.declared.Reading.the-variants.{Accepted}
 use Rattle.capabilities_rules.proofs.Whole.{accepted, at-end, nodes-open, judge-count, outcome-short}
 use Rattle.capabilities.specs.Group.{put, stored, Filled}

@@ -1,8 +1,9 @@
 -- The four lent buffers: "Node room is the shortest of the four lent buffers, at most 512; entries past the nodes stay."
 use Prim.Native.Nat.{ℕ, zero, suc, min}
 use mathlib.Core.Path.{_≡_}
-use mathlib.Core.List.{List, _++_, map}
-use lib.ListN.{length, drop}
+use mathlib.Core.List.{List, map}
+use lib.ListN.{length}
+use Rattle.buffers.specs.Buffers.{over}
 use Rattle.capabilities_rules.specs.Limits.{mostNodes}
 use Rattle.capabilities_rules.specs.Grammar.{Node}
 use Rattle.capabilities_rules.specs.Outcome.{told, outcome}
@@ -26,11 +27,7 @@ buffers a b c d = record { starts = a; lengths = b; parents = c; groups = d }
 abbrev pub bufferRoom : Buffers → ℕ
 bufferRoom t = roomOf (length (t .starts)) (length (t .lengths)) (length (t .parents)) (length (t .groups))
 
--- the values xs, and a buffer's own entries past them
-abbrev pub over : List ℕ → List ℕ → List ℕ
-over xs old = xs ++ drop (length xs) old
-
--- the buffers after an answer number: the nodes' values after 0, "node buffers unchanged" after any other
+-- the buffers after an answer number: the nodes' values after 0, and each buffer's own entries past them; "node buffers unchanged" after any other
 abbrev pub written : ℕ → List Node → Buffers → Buffers
 written zero xs t = buffers (over (map (λ x. x .start) xs) (t .starts)) (over (map (λ x. x .size) xs) (t .lengths)) (over (map (λ x. x .parent) xs) (t .parents)) (over (map (λ x. x .group) xs) (t .groups))
 written (suc k) xs t = t

@@ -7,7 +7,8 @@ use mathlib.Core.List.{List, map}
 use lib.ListN.{length}
 use Rattle.capabilities_rules.specs.Grammar.{Items, Text, Fits, Node, size, nodesFrom}
 use Rattle.capabilities_rules.specs.Outcome.{told, refused}
-use Rattle.capabilities_rules.specs.Buffers.{Buffers, over}
+use Rattle.buffers.specs.Buffers.{over}
+use Rattle.capabilities_rules.specs.Buffers.{Buffers}
 use Rattle.capabilities_rules.specs.Prefixes.{Why}
 use Rattle.capabilities_rules.specs.declared.Reading.{Reading}
 use Rattle.capabilities_rules.specs.declared.Reading.the-variants.{Accepted}

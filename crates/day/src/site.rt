@@ -1,13 +1,9 @@
-// A display at the end of its line.
-use day_host::actions;
-use day_host::actions::Action;
-use day_host::texts;
-use day_line::Frame;
-use day_line::Line;
+// A display at the end of its line, and what a host sends it.
+use crate::line::Line;
+use buffers::front;
 use display_rules::Display;
 use display_rules::limits::TABLE_ROOM;
 use message_rules::limits::OUTPUT_ROOM;
-use show::part::front;
 
 // The display and the memory of its table, the line to it, its last reply and answer, and whether everything held so far.
 pub(crate) struct Site {

@@ -9,7 +9,8 @@ use lib.Dec.{eqb, leb}
 use borrow.Author.Tests.{eqb-true, le-leb}
 use Rattle.message_rules.specs.Answer.{done, wrongField}
 use Rattle.message_rules.specs.Limits.{outputRoom, mostFragment}
-use Rattle.message_builder.specs.Output.{over, Builds}
+use Rattle.buffers.specs.Buffers.{over}
+use Rattle.message_builder.specs.Output.{Builds}
 use Rattle.message_builder.specs.declared.Built.{Built}
 use Rattle.message_builder.specs.declared.Built.the-variants.{Done, Refused}
 use Rattle.codes.specs.Codes.{member}

@@ -1,4 +1,6 @@
 // A display on standard input and output. The format of its records stands in docs/DISPLAY-PIPE.md.
+use buffers::front;
+use buffers::octet;
 use display_rules::Display;
 use display_rules::limits::TABLE_ROOM;
 use libc::STDERR_FILENO;
@@ -7,6 +9,7 @@ use libc::STDOUT_FILENO;
 use message_rules::Position;
 use message_rules::answer::DONE;
 use message_rules::limits::OUTPUT_ROOM;
+use records::word_at;
 use settings::Declaration;
 use settings::Timing;
 
@@ -66,35 +69,17 @@ struct Head {
     fault: u8,
 }
 
-// Returns the byte at an index, or 0 past the end.
-fn octet(s: &[u8], at: usize) -> u8 {
-    if at < s.len() {
-        return s[at];
-    }
-    0
-}
-
 // Returns a 16-bit number as a wider one.
 fn wide(x: u16) -> usize {
     x as usize
 }
 
-// Returns a 16-bit number of a record, the low byte first.
-fn pair(low: u8, high: u8) -> u16 {
-    low as u16 + high as u16 * 256
-}
-
-// Returns the 16-bit number at an index that is not the last.
+// Returns the 16-bit number at an index, the low byte first.
 fn word(s: &[u8], at: usize) -> u16 {
-    pair(octet(s, at), octet(s, at % 65536 + 1))
+    word_at(s, Position(at))
 }
 
-// Returns the first n bytes of s, or all of it where it is shorter.
-fn front(s: &[u8], n: usize) -> &[u8] {
-    if n < s.len() { &s[0..n] } else { s }
-}
-
-// Returns the same part of bytes that are to be changed.
+// Returns the first n bytes that are to be changed, or all where there are fewer.
 fn front_mut(s: &mut [u8], n: usize) -> &mut [u8] {
     if n < s.len() { &mut s[0..n] } else { s }
 }

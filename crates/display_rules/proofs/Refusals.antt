@@ -10,7 +10,7 @@ use Rattle.message_rules.specs.Answer.{done, wrongSize, unknownCommand, codeNot
 use Rattle.message_rules.specs.Message.{Request, getFeature, setFeature, timing, save, text, tableRead, tableWrite, requests, decode, null, toDisplay, toHost}
 use Rattle.message_rules.specs.Read.{Read, ok, refused, unless}
 use Rattle.message_rules.proofs.Order.{null-read}
-use Rattle.message_builder.specs.Output.{over}
+use Rattle.buffers.specs.Buffers.{over}
 use Rattle.message_rules.specs.Message.{tableCode}
 use Rattle.settings.specs.Settings.{reservedBits, setCode, setAnswer, answerToSet, timingIn}
 use Rattle.display_rules.specs.Limits.{tableRoom}

@@ -18,7 +18,7 @@ use Rattle.message_rules.specs.Read.{refused}
 use Rattle.message_rules.specs.declared.Direction.the-variants.{Reply}
 use Rattle.message_rules.proofs.Frames.{length-frame}
 use Rattle.message_rules.proofs.RoundTrip.{requests-round}
-use Rattle.message_builder.specs.Output.{over}
+use Rattle.buffers.specs.Buffers.{over}
 use Rattle.message_rules.specs.Message.{tableCode}
 use Rattle.settings.specs.declared.Timing.{Timing}
 use Rattle.display_rules.specs.Limits.{tableRoom}

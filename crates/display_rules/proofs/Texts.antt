@@ -1,57 +1,25 @@
--- The step follows the paper's sentences on Table write, and the numbers and replies of Text and Table read: the
--- theorems of specs/Texts.antt.
-use mathlib.Core.Path.{_≡_, refl, sym, ap, _∙_}
+-- The step follows the paper's sentences on Table write, and the numbers and replies of Text and Table read: the theorems of specs/Texts.antt.
+use mathlib.Core.Path.{_≡_, refl, ap, _∙_}
 use mathlib.Core.Bool.{Bool, true, false, cond}
-use mathlib.Core.List.{List, _++_}
-use Prim.Native.Nat.{ℕ, _+_, _-_, _≤_, _<_}
+use mathlib.Core.List.{List}
+use Prim.Native.Nat.{ℕ, _+_, _≤_, _<_}
 use native.Mathlib.Omega.{arith}
-use lib.ListN.{length, getD, take, drop, length-append, length-drop, List·getD-append}
-use lib.Seq.{length-take-le, getD-take, getD-drop, getD-append-add, take-append-seam}
+use lib.ListN.{length}
+use lib.Seq.{take-append-seam}
 use lib.Dec.{eqb, ltb}
 use borrow.Author.Tests.{eqb-true, eqb-false, eq-eqb, ne-eqb, le-leb, lt-leb, ltb-false, le-ltb}
+use Rattle.buffers.proofs.Theorems.{puts-bytes}
 use Rattle.message_rules.specs.Message.{text, tableRead, tableWrite, null, toHost}
 use Rattle.message_rules.proofs.Order.{null-read}
 use Rattle.message_rules.specs.declared.TextKind.the-variants.{Capabilities, Table}
 use Rattle.display_rules.specs.Turn.{refusal}
 use Rattle.display_rules.specs.Fragments.{readTurn, tableReadTurn}
-use Rattle.display_rules.specs.Table.{writeAnswer, lengthAfter, written, tableWriteTurn}
+use Rattle.display_rules.specs.Table.{writeAnswer, lengthAfter, tableWriteTurn}
 use Rattle.display_rules.specs.Step.{outcome, step}
 use Rattle.display_rules.specs.Texts.{Writes, WriteNumbers, TextReads, TableReads, ReadNumbers}
 use Rattle.display_rules.specs.declared.Display.{Display}
 use Rattle.display_rules.proofs.Sound.{write-accepted}
 use Rattle.display_rules.proofs.Operations.{obeys, replies-with}
-
--- ---- a byte of the buffer after a write
-
-module _ (table s : List ℕ) (at : ℕ) (fits : at + length s ≤ length table) where
-  front-length : length (take at table) ≡ at
-  front-length = length-take-le at table (omega arith)
-
-  -- the bytes from the offset on
-  from-offset : (i : ℕ) → getD (written table at s) (at + i) 0 ≡ getD (s ++ drop (at + length s) table) i 0
-  from-offset i =
-      ap (λ (n : ℕ). getD (written table at s) (n + i) 0) (sym front-length)
-      ∙ getD-append-add (take at table) (s ++ drop (at + length s) table) i 0
-
-  byte-inside : (i : ℕ) → i < length s → getD (written table at s) (at + i) 0 ≡ getD s i 0
-  byte-inside i h = from-offset i ∙ List·getD-append s (drop (at + length s) table) 0 i h
-
-  byte-before : (i : ℕ) → i < at → getD (written table at s) i 0 ≡ getD table i 0
-  byte-before i h = List·getD-append (take at table) (s ++ drop (at + length s) table) 0 i (omega (arith, front-length)) ∙ getD-take at table i 0 h
-
-  byte-behind : (i : ℕ) → at + length s ≤ i → getD (written table at s) i 0 ≡ getD table i 0
-  byte-behind i h =
-      let j : ℕ = i - (at + length s) in
-      let e : at + (length s + j) ≡ i = omega arith in
-      let f : at + length s + j ≡ i = omega arith in
-      ap (λ (n : ℕ). getD (written table at s) n 0) (sym e)
-      ∙ from-offset (length s + j)
-      ∙ getD-append-add s (drop (at + length s) table) j 0
-      ∙ getD-drop (at + length s) table j 0
-      ∙ ap (λ (n : ℕ). getD table n 0) f
-
-  buffer-length : length (written table at s) ≡ length table
-  buffer-length = simp (length-append, length-drop) (omega (arith, front-length))
 
 -- ---- the numbers
 
@@ -108,10 +76,10 @@ module _ (d : Display) (table out : List ℕ) (c at : ℕ) (s : List ℕ) (room 
         long = λ e h l. absurd (omega (arith, shown .2));
         otherwise = λ e h l. refl;
         refused = λ n. absurd (n refl);
-        inside = λ e i h. byte-inside table s at fits i h;
-        before = byte-before table s at fits;
-        behind = byte-behind table s at fits;
-        buffer = buffer-length table s at fits;
+        inside = λ e i h. puts-bytes table at s fits .there i h;
+        before = puts-bytes table at s fits .before;
+        behind = puts-bytes table at s fits .behind;
+        buffer = puts-bytes table at s fits .same;
         anew = λ e z. length-anew old at (length s) z;
         grown = λ e h l. length-grown old at (length s) h l;
         within = λ e h l. length-within old at (length s) h l;

@@ -2,8 +2,8 @@
 use Prim.Native.Nat.{ℕ, _+_, _-_}
 use mathlib.Core.Bool.{cond, _||_}
 use mathlib.Core.List.{List, []}
-use lib.ListN.{take, drop}
 use lib.Dec.{eqb, ltb}
+use Rattle.buffers.specs.Buffers.{partOf}
 use Rattle.message_rules.specs.Answer.{done, codeNotAllowed}
 use Rattle.message_rules.specs.Limits.{mostFragment}
 use Rattle.message_rules.specs.Message.{Reply, textFragment, tableFragment, null, toHost}
@@ -35,7 +35,7 @@ fragmentSize d = lesser (d .size) mostFragment
 
 -- the bytes of a text at a cursor
 abbrev pub fragmentAt : List ℕ → FragmentCursor → List ℕ
-fragmentAt s c = take (c .len) (drop (c .offset .0) s)
+fragmentAt s c = partOf s (c .offset .0) (c .len)
 
 -- "whichever of the two lent texts was asked for"; the table stands at the start of its buffer
 abbrev pub lentText : TextKind → (text table : List ℕ) → List ℕ

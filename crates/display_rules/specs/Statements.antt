@@ -12,7 +12,7 @@ use Rattle.message_rules.specs.Answer.{done, unknownCommand, codeNotAllowed}
 use Rattle.message_rules.specs.Limits.{mostFragment}
 use Rattle.message_rules.specs.Message.{Request, getFeature, setFeature, timing, save, text, tableRead, tableWrite, requests, encode, decode, toDisplay}
 use Rattle.message_rules.specs.Read.{Read, ok, refused}
-use Rattle.message_builder.specs.Output.{over}
+use Rattle.buffers.specs.Buffers.{over}
 use Rattle.profile_rules.specs.Profile.{loadProfile}
 use Rattle.settings.specs.Entries as entries
 use Rattle.message_rules.specs.Message.{tableCode}

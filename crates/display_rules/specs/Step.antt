@@ -8,7 +8,7 @@ use Rattle.message_rules.specs.Answer.{wrongSize, unknownCommand}
 use Rattle.message_rules.specs.Limits.{outputRoom}
 use Rattle.message_rules.specs.Message.{Request, getFeature, setFeature, timing, save, text, tableRead, tableWrite, requests, decode, null, toDisplay, toHost}
 use Rattle.message_rules.specs.Read.{Read, ok, refused}
-use Rattle.message_builder.specs.Output.{over}
+use Rattle.buffers.specs.Buffers.{over}
 use Rattle.display_rules.specs.Limits.{tableRoom}
 use Rattle.display_rules.specs.Turn.{Turn, refusal, noReply, getTurn, setTurn, saveTurn, timingTurn}
 use Rattle.display_rules.specs.Fragments.{readTurn, tableReadTurn}

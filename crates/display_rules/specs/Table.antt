@@ -1,9 +1,10 @@
 -- Document 01, "The board": "Table write".
 use Prim.Native.Nat.{ℕ, _+_}
 use mathlib.Core.Bool.{cond}
-use mathlib.Core.List.{List, _++_}
-use lib.ListN.{length, take, drop}
+use mathlib.Core.List.{List}
+use lib.ListN.{length}
 use lib.Dec.{eqb, leb, ltb}
+use Rattle.buffers.specs.Buffers.{put}
 use Rattle.message_rules.specs.Answer.{done, codeNotAllowed, notWanted, textTooLong}
 use Rattle.message_rules.specs.Read.{unless}
 use Rattle.message_rules.specs.Message.{tableCode}
@@ -25,7 +26,7 @@ lengthAfter old at n = cond (eqb at 0) n (cond (ltb old (at + n)) (at + n) old)
 
 -- "Bytes go at the offset."
 abbrev pub written : List ℕ → (at : ℕ) → List ℕ → List ℕ
-written table at s = take at table ++ (s ++ drop (at + length s) table)
+written table at s = put table at s
 
 -- "The list's place becomes 0, 0. No reply."
 unfoldable pub tableWriteTurn : Display → List ℕ → (code at : ℕ) → List ℕ → Turn

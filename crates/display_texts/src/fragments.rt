@@ -1,6 +1,7 @@
 // The fragments of the two texts: which one a read finds, and its bytes.
 ghost use mathlib.Core.Path.{_≡_};
-ghost use lib.ListN.{length, take, drop};
+ghost use lib.ListN.{length};
+ghost use Rattle.buffers.specs.Buffers.{partOf};
 ghost use Rattle.display_rules.specs.Fragments.{lesser, nextOffset, nextCursor, foundBytes};
 use display_rules::Found;
 use display_rules::FragmentCursor;
@@ -47,16 +48,10 @@ pub fn next_cursor(size: u16, t: TextState, q: TextOffset) -> FragmentCursor
 
 // Returns the n bytes of a text from an offset on, or those of them that there are.
 fn part<'a>(s: &'a [u8], from: TextOffset, n: usize) -> &'a [u8]
-    ensures { λ r. ⌜ now r ≡ take n (drop (from .0) (now (s .entry))) ⌝ }
+    ensures { λ r. ⌜ now r ≡ partOf (now (s .entry)) (from .0) n ⌝ }
 {
     let at = from.0 as usize;
-    if s.len() <= at {
-        return &s[..0];
-    }
-    if n < s.len() - at {
-        return &s[at..at + n];
-    }
-    &s[at..]
+    buffers::part(s, at, n)
 }
 
 // Returns the fragment that a step found, as a part of whichever of the two lent texts was asked for.

@@ -1,18 +1,8 @@
-// Runs the rows of standard input on displays, and writes one line a group. The form of the input stands at its head,
-// in the file stdin.
-mod bench;
-mod line;
-
-use bench::Bench;
-use bench::FILLING;
-use bench::OUT_ROOM;
-use bench::TABLE_BUFFER;
-use bench::behind;
-use bench::front;
-use bench::front_mut;
-use bench::octet;
-use display_rules::Changed;
-use libc::STDIN_FILENO;
+// Runs of a display that document 01 leaves to a program: a table of 1,024 and of 1,025 bytes, and a request that is sent twice. One line a group.
+use buffers::behind;
+use buffers::front;
+use display_rules::Display;
+use display_rules::limits::TABLE_ROOM;
 use libc::STDOUT_FILENO;
 use settings::Declaration;
 use settings::Settings;
@@ -35,16 +25,11 @@ fn word(s: &[u8], at: usize) -> u16 {
     joined(octet(s, at), octet(s, at % 65536 + 1))
 }
 
-fn joined(high: u8, low: u8) -> u16 {
-    high as u16 * 256 + low as u16
-}
-
-fn wide(n: u16) -> usize {
-    n as usize
-}
-
-fn byte_wide(n: u8) -> usize {
-    n as usize
+fn length_of(built: Built) -> usize {
+    match built {
+        Built::Done(n) => n,
+        Built::Refused(answer) => 0,
+    }
 }
 
 // Returns the answer that is due, which is written in decimal.

@@ -1,6 +1,8 @@
 // What the host does before it reads: it starts the display, declares codes, writes the list, and sets and gets brightness.
 use crate::pipe;
 use crate::pipe::Host;
+use buffers::behind;
+use buffers::front;
 use message_builder::Built;
 use message_builder::request;
 use message_reader::ReplyRead;
@@ -10,8 +12,6 @@ use message_rules::TO_DISPLAY;
 use message_rules::TextOffset;
 use message_rules::limits::MOST_WRITTEN;
 use message_rules::limits::OUTPUT_ROOM;
-use show::part::behind;
-use show::part::front;
 
 const BRIGHTNESS: u8 = 0x10;
 

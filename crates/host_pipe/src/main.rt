@@ -4,9 +4,9 @@ mod pipe;
 mod read;
 mod report;
 
+use buffers::behind;
 use job::Got;
 use message_rules::TextKind;
-use show::part::behind;
 
 // The bytes of a start record in front of the capabilities string: timing and fragment size.
 const START_FIELDS: usize = 7;

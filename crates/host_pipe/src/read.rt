@@ -1,10 +1,10 @@
 // A text read back through a transfer. What the line has spoiled is given to the transfer as it came: it counts, and is asked for again.
 use crate::pipe;
 use crate::pipe::Host;
+use buffers::front;
 use message_rules::TextKind;
 use message_rules::limits::LONGEST_TEXT;
 use message_rules::limits::OUTPUT_ROOM;
-use show::part::front;
 use transfer_rules::State;
 use transfer_rules::Transfer;
 

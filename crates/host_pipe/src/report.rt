@@ -4,8 +4,8 @@ use crate::pipe;
 use crate::pipe::Host;
 use crate::read;
 use crate::read::Reading;
+use buffers::front;
 use libc::STDERR_FILENO;
-use show::part::front;
 use transfer_rules::Transfer;
 
 const TO: i32 = STDERR_FILENO;

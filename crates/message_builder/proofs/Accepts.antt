@@ -20,7 +20,8 @@ use Rattle.message_rules.specs.declared.Direction.{Direction}
 use Rattle.message_rules.specs.declared.Direction.the-variants as way
 use Rattle.message_rules.proofs.RoundTrip.{requests-round, replies-round}
 use Rattle.message_rules.proofs.Tests.{and-true}
-use Rattle.message_builder.specs.Output.{over, admits}
+use Rattle.buffers.specs.Buffers.{over}
+use Rattle.message_builder.specs.Output.{admits}
 use Rattle.message_builder.specs.Accepts.{Typed, AcceptsExactly, ReadsBack}
 use Rattle.message_builder.specs.declared.Built.{Built}
 use Rattle.message_builder.specs.declared.Built.the-variants.{Done, Refused}

@@ -2,12 +2,12 @@
 -- Assumes nothing.
 use mathlib.Core.Path.{_≡_, refl, sym, ap, ap₂, _∙_, subst}
 use Prim.Native.Nat.{ℕ, suc, _+_, _-_, _/_, _%_, _≤_, _<_}
-use mathlib.Core.List.{List, [], _∷_, _++_, append-assoc, append-nil}
+use mathlib.Core.List.{List, [], _∷_, _++_, append-nil}
 use mathlib.Core.Bool.{Bool, true, false, cond, _&&_}
 use lib.Dec.{leb}
 use native.Mathlib.Omega.{arith}
 use lib.ListN.{length, getD, take, drop, set, length-append, length-drop, drop-of-length-le}
-use lib.Seq.{take-at, drop-at, take-all, take-length, drop-drop, drop-cons, set-at, append-snoc}
+use lib.Seq.{take-all, take-length, drop-cons, set-at, append-snoc}
 use borrow.Rule.Slice.PartMut.{midOf, postOf, putMid, post-is}
 use borrow.Author.Tests.{le-leb, lt-leb}
 use Rattle.checksum.specs.Xor.{xorAll}
@@ -17,18 +17,13 @@ use Rattle.message_rules.specs.Frame.{plain, closed, frame}
 use Rattle.message_rules.specs.Read.{unless}
 use Rattle.message_rules.specs.declared.Address.{Address}
 use Rattle.message_rules.specs.declared.Direction.the-variants.{Reply}
-use Rattle.message_builder.specs.Output.{over, builtAnswer, builtOutput, numberOf, builtNumber, Builds, refusal, fragment}
+use Rattle.buffers.specs.Buffers.{over}
+use Rattle.buffers.proofs.Puts.{over-next}
+use Rattle.message_builder.specs.Output.{builtAnswer, builtOutput, numberOf, builtNumber, Builds, refusal, fragment}
 use Rattle.message_builder.specs.declared.Built.{Built}
 use Rattle.message_builder.specs.declared.Built.the-variants.{Done, Refused}
 
--- one run put behind another
-pub over-next : (out x y : List ℕ) → take (length x) (over x out) ++ over y (drop (length x) (over x out)) ≡ over (x ++ y) out
-over-next out x y =
-    ap₂ (λ (p q : List ℕ). p ++ (y ++ drop (length y) q)) (take-at x (drop (length x) out) (length x) refl) (drop-at x (drop (length x) out) (length x) refl)
-    ∙ sym (append-assoc x y _)
-    ∙ ap (λ (q : List ℕ). (x ++ y) ++ q) (drop-drop (length y) (length x) out ∙ ap (λ (n : ℕ). drop n out) (sym (length-append x y)))
-
--- the same where the second run goes into the part of the output behind the first
+-- one run put behind another, where it goes into the part of the output behind the first
 part-next : (out x y p ys : List ℕ) (at end : ℕ) → p ≡ over x out → at ≡ length x → at ≤ length p → end ≡ length p → ys ≡ over y (midOf at (end - at) p) → putMid at (end - at) p ys ≡ over (x ++ y) out
 part-next out x y p ys at end e a h l f =
     let whole : midOf at (end - at) p ≡ drop at p = take-all (end - at) (drop at p) (omega (arith, length-drop at p)) in

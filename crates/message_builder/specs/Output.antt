@@ -2,9 +2,10 @@
 use Prim.Native.Nat.{ℕ, _+_, _/_, _%_}
 use mathlib.Core.Path.{_≡_}
 use mathlib.Core.Bool.{Bool, cond, _&&_}
-use mathlib.Core.List.{List, _∷_, _++_}
-use lib.ListN.{length, drop}
+use mathlib.Core.List.{List, _∷_}
+use lib.ListN.{length}
 use lib.Dec.{leb}
+use Rattle.buffers.specs.Buffers.{over}
 use Rattle.message_rules.specs.Answer.{wrongSize, wrongField}
 use Rattle.message_rules.specs.Limits.{outputRoom}
 use Rattle.message_rules.specs.Read.{unless}
@@ -16,15 +17,11 @@ use Rattle.message_rules.specs.declared.Address.{Address}
 use Rattle.message_builder.specs.declared.Built.{Built}
 use Rattle.message_builder.specs.declared.Built.the-variants.{Done, Refused}
 
--- s at the start of the output; "Bytes of an output beyond the reply length stay."
-abbrev pub over : List ℕ → List ℕ → List ℕ
-over s out = s ++ drop (length s) out
-
 -- 1 for an output that is too small, then 7 where the message is not allowed, else the message's length
 abbrev pub builtAnswer : Bool → List ℕ → List ℕ → Built
 builtAnswer allowed s before = cond (leb outputRoom (length before)) (cond allowed (Done (length s)) (Refused wrongField)) (Refused wrongSize)
 
--- a refusal leaves the output as it was
+-- a refusal leaves the output as it was; "Bytes of an output beyond the reply length stay."
 abbrev pub builtOutput : Bool → List ℕ → List ℕ → List ℕ
 builtOutput allowed s before = cond (leb outputRoom (length before)) (cond allowed (over s before) before) before
 

@@ -2,14 +2,14 @@
 use Prim.Native.Nat.{ℕ, _+_, _-_, _≤_, _<_}
 use mathlib.Core.Path.{_≡_}
 use mathlib.Core.List.{List}
-use lib.ListN.{length, take, drop}
+use lib.ListN.{length}
+use Rattle.buffers.specs.Buffers.{partOf}
 use Rattle.message_rules.specs.Read.{Read, ok, refused}
 use Rattle.message_rules.specs.Row as row
 use Rattle.message_rules.specs.Layout.{layoutOf, least}
 use Rattle.message_rules.specs.Frame.{bodyLength}
 use Rattle.message_rules.specs.Message.{decode, requests, replies, Request, getFeature, setFeature, timing, save, text, tableRead, tableWrite, Reply, value, timingReply, textFragment, tableFragment}
 use Rattle.message_rules.specs.declared.Address.{Address}
-use Rattle.message_rules.specs.declared.Position.{Position}
 use Rattle.message_reader.specs.declared.RequestRead.{RequestRead}
 use Rattle.message_reader.specs.declared.RequestRead.the-variants as requestRead
 use Rattle.message_reader.specs.declared.ReplyRead.{ReplyRead}
@@ -20,10 +20,6 @@ use Rattle.message_reader.specs.declared.table.ReplyVerdict.{ReplyVerdic
 use Rattle.message_reader.specs.declared.table.ReplyVerdict.the-variants as replyVerdict
 use Rattle.message_reader.specs.Parts.{bodyIn}
 
--- the n bytes from a position of the slice on
-abbrev pub partOf : List ℕ → Position → ℕ → List ℕ
-partOf s at n = take n (drop (at .0) s)
-
 -- the message, or the number of the refusal, that a result stands for
 abbrev pub requestIn : List ℕ → RequestRead → Read Request
 requestIn s (requestRead.Get c) = ok (getFeature c)
@@ -32,14 +28,14 @@ requestIn s requestRead.Timing = ok timing
 requestIn s requestRead.Save = ok save
 requestIn s (requestRead.Text o) = ok (text (o .0))
 requestIn s (requestRead.TableRead c o) = ok (tableRead c (o .0))
-requestIn s (requestRead.TableWrite c o at n) = ok (tableWrite c (o .0) (partOf s at n))
+requestIn s (requestRead.TableWrite c o at n) = ok (tableWrite c (o .0) (partOf s (at .0) n))
 requestIn s (requestRead.Refused k) = refused k
 
 abbrev pub replyIn : List ℕ → ReplyRead → Read Reply
 replyIn s (replyRead.Value r c t m p) = ok (value r c t m p)
 replyIn s (replyRead.Timing st h v) = ok (timingReply st h v)
-replyIn s (replyRead.TextFragment o at n) = ok (textFragment (o .0) (partOf s at n))
-replyIn s (replyRead.TableFragment o at n) = ok (tableFragment (o .0) (partOf s at n))
+replyIn s (replyRead.TextFragment o at n) = ok (textFragment (o .0) (partOf s (at .0) n))
+replyIn s (replyRead.TableFragment o at n) = ok (tableFragment (o .0) (partOf s (at .0) n))
 replyIn s (replyRead.Refused k) = refused k
 
 -- where the data of a Table write stand, behind 51, length byte, E7, code and offset; and those of a fragment, which has no code

@@ -8,6 +8,8 @@ ghost use Rattle.message_rules.specs.Body.{word};
 ghost use Rattle.message_rules.specs.Frame.{bodyLength, fits, lengthByte};
 ghost use Rattle.message_rules.specs.Layout.{longest};
 ghost use Rattle.message_reader.specs.Parts.{headAnswer, tailAnswer};
+use buffers::wide;
+use buffers::wide16;
 use message_rules::Address;
 use message_rules::Direction;
 use message_rules::Position;
@@ -20,18 +22,6 @@ const FIRST_BYTE: Position = Position(0);
 const LENGTH_BYTE: Position = Position(1);
 
 pub(crate) const COMMAND: Position = Position(2);
-
-fn wide(x: u8) -> usize
-    ensures { λ r. ⌜ (r ≡ x) × (r < 256) ⌝ }
-{
-    x as usize
-}
-
-fn wide16(x: u8) -> u16
-    ensures { λ r. ⌜ (r ≡ x) × (r < 256) ⌝ }
-{
-    x as u16
-}
 
 // Returns the byte at a position.
 pub(crate) fn byte_at(s: &[u8], at: Position) -> u8

@@ -1,7 +1,7 @@
 // Document 01's answer numbers in words.
-use crate::part::behind;
-use crate::part::front;
 use crate::text;
+use buffers::behind;
+use buffers::front;
 
 // The width of a meaning's column.
 const WIDTH: usize = 24;

@@ -3,7 +3,6 @@
 // No contract can speak of what is written: these functions are proved safe and ending, and show_vectors runs them.
 pub mod answer;
 pub mod input;
-pub mod part;
 pub mod tree;
 
 // Writes a text as it is.
@@ -16,7 +15,7 @@ pub fn number(to: i32, n: u64, width: usize) {
     let mut digits = [0u8; 20];
     let k = io::decimal(n, &mut digits);
     if k < width {
-        text(to, part::front(b"        ", width - k));
+        text(to, buffers::front(b"        ", width - k));
     }
     text(to, &digits[..k]);
 }

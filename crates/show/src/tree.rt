@@ -1,7 +1,7 @@
 // The tree of a capabilities string, one word a line; and of a refused one, what is wrong with it.
-use crate::part::behind;
-use crate::part::front;
 use crate::text;
+use buffers::behind;
+use buffers::front;
 use capabilities_rules::Reading;
 use capabilities_rules::limits::DEEPEST;
 use capabilities_rules::limits::MOST_NODES;

@@ -15,7 +15,8 @@ use Rattle.message_rules.specs.Read.{Read, refused}
 use Rattle.message_rules.specs.declared.Position.{Position}
 use Rattle.message_rules.specs.declared.TextOffset.{TextOffset}
 use Rattle.message_reader.specs.Outcome.{ReplyMeans, replyIn, ReplyInside}
-use Rattle.message_builder.specs.Output.{over, Builds, BuildsMessage}
+use Rattle.buffers.specs.Buffers.{over}
+use Rattle.message_builder.specs.Output.{Builds, BuildsMessage}
 use Rattle.message_builder.specs.declared.Built.{Built}
 use Rattle.message_builder.specs.declared.Built.the-variants as built
 use Rattle.message_reader.specs.declared.ReplyRead.{ReplyRead}
@@ -29,7 +30,8 @@ use Rattle.message_rules.specs.declared.TextKind.{TextKind}
 use Rattle.message_rules.specs.declared.TextKind.the-variants.{Capabilities, Table}
 use Rattle.message_rules.specs.Message.{tableCode}
 use Rattle.transfer_rules.specs.Fragment.{Fragment, requestMessage, readReply, fragmentOf}
-use Rattle.transfer_rules.specs.Transfer.{isOpen, room, request, Requests, ReceiveOutcome, counted, stateAfter, put, accept, judge, receive, Receives}
+use Rattle.buffers.specs.Buffers.{put}
+use Rattle.transfer_rules.specs.Transfer.{isOpen, room, request, Requests, ReceiveOutcome, counted, stateAfter, accept, judge, receive, Receives}
 use Rattle.transfer.specs.Found.{fragmentFound, FragmentInside, FragmentMeans, ofKind, requestedBy}
 use Rattle.transfer.specs.declared.wire.FragmentRead.{FragmentRead}
 use Rattle.transfer.specs.declared.wire.FragmentRead.the-variants.{Found, Refused}

@@ -4,7 +4,8 @@ use mathlib.Core.List.{List}
 use lib.ListN.{length}
 use Rattle.message_rules.specs.Answer.{done, notWanted}
 use Rattle.message_rules.specs.Read.{Read, ok, refused}
-use Rattle.message_reader.specs.Outcome.{Meaning, partOf}
+use Rattle.buffers.specs.Buffers.{partOf}
+use Rattle.message_reader.specs.Outcome.{Meaning}
 use Rattle.message_builder.specs.declared.Built.{Built}
 use Rattle.message_builder.specs.declared.Built.the-variants as built
 use Rattle.message_reader.specs.declared.ReplyRead.{ReplyRead}
@@ -18,7 +19,7 @@ use Rattle.transfer.specs.declared.wire.FragmentRead.the-variants.{Found
 
 -- the fragment, or the number of the refusal, that a result stands for
 abbrev pub fragmentFound : List ℕ → FragmentRead → Read Fragment
-fragmentFound s (Found o at n) = ok (record { offset = o .0; bytes = partOf s at n })
+fragmentFound s (Found o at n) = ok (record { offset = o .0; bytes = partOf s (at .0) n })
 fragmentFound s (Refused k) = refused k
 
 -- the data that a result names lie in the slice

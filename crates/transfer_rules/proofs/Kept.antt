@@ -18,7 +18,8 @@ use Rattle.message_rules.specs.declared.TextKind.{TextKind}
 use Rattle.transfer_rules.specs.declared.State.{State}
 use Rattle.transfer_rules.specs.declared.State.the-variants.{Running, Done, Exhausted, Overflowed}
 use Rattle.transfer_rules.specs.Fragment.{Fragment, fragmentFor, fragmentMessage, readReply, fragmentIn, fragmentOf, dataIn}
-use Rattle.transfer_rules.specs.Transfer.{isOpen, room, ReceiveOutcome, exhaustedAt, counted, stateAfter, put, refuse, judge}
+use Rattle.buffers.specs.Buffers.{put}
+use Rattle.transfer_rules.specs.Transfer.{isOpen, room, ReceiveOutcome, exhaustedAt, counted, stateAfter, refuse, judge}
 use Rattle.transfer_rules.specs.Conforming.{Cursor}
 use Rattle.transfer_rules.specs.Exchange.{rules, World, Exchange, Turn, ignores, acts, cursorAfter, countedBy, advance, RepliedBy, Replied, Corrupted}
 use Rattle.transfer_rules.specs.Exchange.{received as received·, after as after·, Lawful as Lawful·, Follows as Follows·}

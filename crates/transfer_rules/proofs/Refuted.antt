@@ -23,7 +23,8 @@ use Rattle.transfer_rules.specs.declared.State.the-variants.{Running, Do
 use Rattle.transfer_rules.specs.declared.Transfer.{Transfer}
 use Rattle.transfer_rules.specs.declared.Begun.{Begun}
 use Rattle.transfer_rules.specs.Fragment.{Fragment, requestMessage, fragmentMessage, readReply, fragmentOf, dataIn}
-use Rattle.transfer_rules.specs.Transfer.{isOpen, begin, RequestOutcome, request, ReceiveOutcome, refuse, put, accept, receive}
+use Rattle.buffers.specs.Buffers.{put}
+use Rattle.transfer_rules.specs.Transfer.{isOpen, begin, RequestOutcome, request, ReceiveOutcome, refuse, accept, receive}
 use Rattle.transfer_rules.specs.Exchange.{Calls, World, Exchange, ignores, acts, start, after, Corrupted, Follows, Course, ended, answered, corrupted, closed}
 use Rattle.transfer_rules.specs.Demand3.{Setup, CourseOf, Claims, Demand3}
 use Rattle.transfer_rules.proofs.Messages.{request-injective}

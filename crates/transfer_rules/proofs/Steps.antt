@@ -17,7 +17,8 @@ use Rattle.transfer_rules.specs.declared.State.{State}
 use Rattle.transfer_rules.specs.declared.State.the-variants.{Running, Done, Exhausted, Overflowed}
 use Rattle.transfer_rules.specs.declared.Transfer.{Transfer}
 use Rattle.transfer_rules.specs.Fragment.{requestMessage, fragmentFor, readReply, fragmentOf}
-use Rattle.transfer_rules.specs.Transfer.{isRunning, isOpen, room, request, counted, stateAfter, put, judge, unchanged, receive}
+use Rattle.buffers.specs.Buffers.{put}
+use Rattle.transfer_rules.specs.Transfer.{isRunning, isOpen, room, request, counted, stateAfter, judge, unchanged, receive}
 use Rattle.transfer_rules.specs.Conforming.{Cursor, offsetSet, SizeAllowed, MovesTo}
 use Rattle.transfer_rules.specs.Exchange.{sentBy}
 use Rattle.transfer_rules.proofs.Messages.{fragment-in, request-injective}

@@ -1,10 +1,11 @@
 -- Document 01, "The read run", first paragraph: begin, request and receive (the papers' beginning, asking, offering) as total definitions.
 use Prim.Native.Nat.{ℕ, _+_, _<_, min}
 use mathlib.Core.Path.{_≡_}
-use mathlib.Core.List.{List, _++_}
+use mathlib.Core.List.{List}
 use mathlib.Core.Bool.{Bool, true, false, cond, _&&_}
-use lib.ListN.{length, take, drop}
+use lib.ListN.{length}
 use lib.Dec.{ltb, leb, eqb}
+use Rattle.buffers.specs.Buffers.{over, put}
 use Rattle.message_rules.specs.Answer.{done, wrongSize, notWanted, textTooLong, transferClosed, notDeclarable}
 use Rattle.message_rules.specs.Limits.{outputRoom}
 use Rattle.message_rules.specs.Read.{Read, ok, refused}
@@ -57,7 +58,7 @@ notSent n output = record { answer = n; len = 0; output = output }
 
 -- a message at the start of the output; the bytes beyond it stay
 abbrev sentIn : List ℕ → List ℕ → RequestOutcome
-sentIn message output = record { answer = done; len = length message; output = message ++ drop (length message) output }
+sentIn message output = record { answer = done; len = length message; output = over message output }
 
 -- "Asking builds the request for the offset it has reached (16 if closed) and counts nothing"; "Every builder needs 38 bytes of output" (else 1)
 abbrev pub request : Transfer → List ℕ → RequestOutcome
@@ -89,10 +90,6 @@ counted t s o =
 -- a reply that is refused with the number n: "nothing" changes "apart from the count and a closing as spent"
 abbrev pub refuse : Transfer → List ℕ → ℕ → ReceiveOutcome
 refuse t buffer n = record { answer = n; transfer = counted t Running (t .reached .0); buffer = buffer }
-
--- d put at the offset o of the buffer
-abbrev pub put : List ℕ → ℕ → List ℕ → List ℕ
-put buffer o d = take o buffer ++ (d ++ drop (o + length d) buffer)
 
 -- "An accepted piece is put at the offset; an empty one closes it as done."
 abbrev pub stateAfter : ℕ → State

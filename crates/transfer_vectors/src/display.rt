@@ -52,7 +52,7 @@ pub(crate) fn moved(c: Cursor, q: usize, total: usize, fixed: usize, seed: u64) 
 // The offset that a request asks for.
 pub(crate) fn asked(request: Frame) -> usize {
     let bytes = request.bytes;
-    match read_request(TO_DISPLAY, line::front(&bytes, request.len)) {
+    match read_request(TO_DISPLAY, buffers::front(&bytes, request.len)) {
         RequestRead::Get(_) => 0,
         RequestRead::Set { .. } => 0,
         RequestRead::Timing => 0,

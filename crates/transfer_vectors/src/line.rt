@@ -9,11 +9,6 @@ pub(crate) struct Frame {
 // The bytes of output that a builder needs.
 pub(crate) const ROOM: usize = 38;
 
-// The first n bytes, or all where there are fewer.
-pub(crate) fn front(s: &[u8], n: usize) -> &[u8] {
-    if n < s.len() { &s[0..n] } else { s }
-}
-
 pub(crate) fn silence() -> Frame {
     Frame {
         bytes: [0u8; ROOM],

@@ -96,7 +96,7 @@ fn receive(mut w: World, reply: Frame, in_place: bool) -> World {
     let received = moved_on(
         before,
         &mut buffer,
-        line::front(&bytes, reply.len),
+        buffers::front(&bytes, reply.len),
         in_place,
     );
     let after = received.transfer;
@@ -195,7 +195,7 @@ pub(crate) fn whole(
         noise: noise,
         in_place: false,
     };
-    list(s, line::front(&letters, length), budget)
+    list(s, buffers::front(&letters, length), budget)
 }
 
 // Returns the same of a table, in fragments of mixed lengths, each call by the entry in place.
@@ -208,5 +208,5 @@ pub(crate) fn in_place(length: usize, budget: usize, noise: u64) -> Ended {
         noise: noise,
         in_place: true,
     };
-    list(s, line::front(&letters, length), budget)
+    list(s, buffers::front(&letters, length), budget)
 }

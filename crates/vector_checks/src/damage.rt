@@ -20,10 +20,10 @@ fn flawed(to_host: bool, s: &[u8]) -> u8 {
         return number::TOO_SHORT;
     }
     let first = if to_host { 0x6E } else { 0x51 };
-    if fields::octet(s, 0) != first {
+    if buffers::octet(s, 0) != first {
         return number::WRONG_FIRST_BYTE;
     }
-    let right = right_length(to_host, s.len(), fields::octet(s, 1), fields::octet(s, 2));
+    let right = right_length(to_host, s.len(), buffers::octet(s, 1), buffers::octet(s, 2));
     if right {
         return number::WRONG_CHECKSUM;
     }

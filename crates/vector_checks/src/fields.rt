@@ -6,6 +6,8 @@ ghost use Rattle.message_rules.specs.Layout.{rowOf};
 ghost use Rattle.message_rules.specs.declared.Direction.the-variants.{Request, Reply};
 ghost use Rattle.vector_checks.specs.Fields.{partOf, gathered};
 ghost use Rattle.vector_checks.specs.Shape.{shapeOf};
+use buffers::octet;
+use buffers::wide16;
 
 // The fields of a message: its command number, at most three single bytes, and at most two 16-bit words.
 // A field that it does not have is 0. Data stand apart.
@@ -50,28 +52,10 @@ pub fn part(s: &[u8], start: usize, end: usize) -> &[u8]
     &s[start..end]
 }
 
-// Returns the byte at an index, or 0 past the end.
-pub fn octet(s: &[u8], at: usize) -> u8
-    ensures { λ r. ⌜ r ≡ getD (now (s .entry)) at 0 ⌝ }
-{
-    if at < s.len() {
-        return s[at];
-    }
-    0
-}
-
-// Returns a byte as a 16-bit number.
-fn wide(x: u8) -> u16
-    ensures { λ r. ⌜ (r ≡ x) × (r < 256) ⌝ }
-{
-    x as u16
-}
-
-// Returns the 16-bit number of a high and a low byte.
 pub fn word(high: u8, low: u8) -> u16
     ensures { λ r. ⌜ r ≡ high * 256 + low ⌝ }
 {
-    wide(high) * 256 + wide(low)
+    wide16(high) * 256 + wide16(low)
 }
 
 // Returns the fields from the single bytes and the words of a message, the high byte of each word first.

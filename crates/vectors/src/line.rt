@@ -49,7 +49,7 @@ pub(crate) fn command(word: &[u8]) -> u8 {
     for i in 0..WORDS {
         let at = i * WIDTH;
         if check::same(fields::part(words, at, at + WIDTH), &padded) {
-            return fields::octet(commands, i);
+            return buffers::octet(commands, i);
         }
     }
     UNKNOWN

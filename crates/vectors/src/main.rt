@@ -130,7 +130,7 @@ fn judge(p: Progress, command: u8, f: &[u8], s: &[u8], behind: &[u8]) -> Progres
     if behind.len() > 1 || (command == line::SETTING && behind.len() != 0) {
         return stop(p);
     }
-    let digits = fields::octet(behind, 0);
+    let digits = buffers::octet(behind, 0);
     let answer = digits / 16 * 10 + digits % 16;
     match command {
         line::REQUEST => add(p, vector::reading(false, f, s, answer)),
@@ -162,7 +162,7 @@ fn run_vector(p: Progress, s: &[u8]) -> Progress {
 // It stands from `at` to `end` in the input s.
 fn run_line(p: Progress, s: &[u8], at: usize, end: usize) -> Progress {
     let text = fields::part(s, at, end);
-    let first = fields::octet(text, 0);
+    let first = buffers::octet(text, 0);
     if first == b'#' {
         return p;
     }

@@ -33,9 +33,9 @@ fn ranged(code: u8, high: u8, low: u8, f: &[u8]) -> Tally {
         code,
         high,
         low,
-        fields::octet(f, 3),
-        fields::octet(f, 4),
-        fields::octet(f, 5),
+        buffers::octet(f, 3),
+        buffers::octet(f, 4),
+        buffers::octet(f, 5),
     )
 }
 
@@ -44,9 +44,9 @@ pub(crate) fn row(f: &[u8], s: &[u8]) -> Tally {
     if f.len() < 3 {
         return Tally(0, 0);
     }
-    let code = fields::octet(f, 0);
-    let high = fields::octet(f, 1);
-    let low = fields::octet(f, 2);
+    let code = buffers::octet(f, 0);
+    let high = buffers::octet(f, 1);
+    let low = buffers::octet(f, 2);
     let printed = [0x51, 0x84, 0x03, code, high, low];
     if !check::same(s, &printed) {
         return Tally(0, 1);

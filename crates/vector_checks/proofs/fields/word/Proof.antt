@@ -6,14 +6,14 @@ use borrow.Author.Needs.{needs}
 use Rattle.vector_checks.proofs.fields.word.Statement.{statement}
 use Rattle.vector_checks.proofs.fields.word.Tie as tie
 
-wide-requires : tie.Need-wide-requires
-wide-requires c κs = search needs
+wide16-requires : tie.Need-wide16-requires
+wide16-requires c κs = search needs
 
 mul-result : tie.Need-mul-result
 mul-result c = search needs
 
-wide-requires-2 : tie.Need-wide-requires-2
-wide-requires-2 c κs = search needs
+wide16-requires-2 : tie.Need-wide16-requires-2
+wide16-requires-2 c κs = search needs
 
 add-result : tie.Need-add-result
 add-result c = search needs
@@ -22,7 +22,7 @@ high-byte-first : (high low a b : ℕ) → a ≡ high → b ≡ low → a * 256 
 high-byte-first high low a b p q = rw (p, q)
 
 returns : tie.Need-returns
-returns c = high-byte-first _ _ _ _ (c .before .wide .ensures .0) (c .wide2 .ensures .0)
+returns c = high-byte-first _ _ _ _ (c .before .wide16 .ensures .0) (c .wide162 .ensures .0)
 
 pub word-spec : {M : Type 1} → statement M
-word-spec = tie.close (tie.spec wide-requires mul-result wide-requires-2 add-result returns)
+word-spec = tie.close (tie.spec wide16-requires mul-result wide16-requires-2 add-result returns)

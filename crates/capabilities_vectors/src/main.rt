@@ -1,4 +1,4 @@
-// Runs document 01's unmarked examples of capabilities strings, and strings of real monitors, against worked-out answers.
+// Runs capabilities strings against worked-out answers: document 01's examples, and strings of real monitors.
 // Writes one line a group: how many of its strings were answered right.
 // Every expected number is the papers' own, as a numeral: none is named by a constant that is under test.
 use capabilities_rules::Reading;
@@ -7,15 +7,19 @@ use libc::STDOUT_FILENO;
 // The length of the four buffers: more than 512, so that the reader's own limit is seen.
 const ROOM: usize = 600;
 
-// What a string is to be answered: the number of nodes and their digest, or the answer number and its position.
+// What a string is to be answered.
 enum Wanted {
+    // It is accepted, with this number of nodes, and they have this digest.
     Nodes(usize, u32),
+    // It is refused, with this answer number and this position.
     Refusal(u8, usize),
 }
 
-// How many strings were tried, and how many of them were answered right.
+// What the strings of a group came to.
 struct Tally {
+    // How many were tried.
     tried: u64,
+    // How many of them were answered right.
     right: u64,
 }
 
@@ -24,11 +28,12 @@ fn wide(x: u16) -> u32 {
     x as u32
 }
 
+// Returns a byte as 32 bits.
 fn wide_byte(x: u8) -> u32 {
     x as u32
 }
 
-// Returns three times the digest and the value, so that each value counts, and its place.
+// Returns three times the digest plus the value, so that each value counts, and where it stands.
 fn mix(digest: u32, value: u32) -> u32 {
     let twice = std::num::wrapping_add_u32(digest, digest);
     std::num::wrapping_add_u32(std::num::wrapping_add_u32(twice, digest), value)
@@ -122,7 +127,7 @@ fn none() -> Tally {
     Tally { tried: 0, right: 0 }
 }
 
-// Returns the tally with one string more.
+// Returns the tally with one string more, which is to be answered as wanted.
 fn tried(t: Tally, text: &[u8], room: usize, wanted: Wanted) -> Tally {
     let all = std::num::wrapping_add_u64(t.tried, 1);
     if answers(text, room, wanted) {
@@ -137,17 +142,17 @@ fn tried(t: Tally, text: &[u8], room: usize, wanted: Wanted) -> Tally {
     }
 }
 
-// Tries a string that is to be accepted, with so many nodes and this digest.
+// Returns the tally with a string that is to be accepted, with so many nodes and this digest.
 fn nodes(t: Tally, text: &[u8], count: usize, digest: u32) -> Tally {
     tried(t, text, ROOM, Wanted::Nodes(count, digest))
 }
 
-// Tries a string that is to be refused, with room for `room` nodes.
+// Returns the tally with a string that is to be refused, with room for `room` nodes.
 fn refused(t: Tally, text: &[u8], room: usize, number: u8, place: usize) -> Tally {
     tried(t, text, room, Wanted::Refusal(number, place))
 }
 
-// Tries a string whose grammar is wrong at this place.
+// Returns the tally with a string whose grammar is wrong at this position.
 fn wrong(t: Tally, text: &[u8], place: usize) -> Tally {
     refused(t, text, ROOM, 13, place)
 }
@@ -174,7 +179,7 @@ fn examples() {
     report(b"examples", t);
 }
 
-// What document 01 leaves to its reader's care: where a group may stand, an empty one, and spaces.
+// Runs what document 01 leaves to its reader's care: where a group may stand, an empty one, and spaces.
 fn readings() {
     let mut t = none();
     t = wrong(t, b"", 0);
@@ -186,7 +191,8 @@ fn readings() {
     report(b"readings", t);
 }
 
-// Bytes at the edges: 21 and 7E are letters; 1F, 7F, 80, FF and 00 are 13 at their place, in a word too.
+// Runs bytes at the edges: 21 and 7E are letters.
+// 1F, 7F, 80, FF and 00 are 13 at their position, in a word too.
 fn bytes() {
     let mut t = none();
     t = nodes(t, b"(!)", 1, 196641);
@@ -200,14 +206,14 @@ fn bytes() {
     report(b"bytes at the edges", t);
 }
 
-// Stores a byte, where the buffer has the place.
+// Stores a byte, where the buffer has this index.
 fn put(out: &mut [u8], at: usize, b: u8) {
     if at < out.len() {
         out[at] = b;
     }
 }
 
-// Returns the one byte where the places are both even or both odd, else the other.
+// Returns the first byte where both indices are even or both odd, else the second.
 fn in_turn(from: usize, at: usize, first: u8, second: u8) -> u8 {
     if at % 2 == from % 2 { first } else { second }
 }
@@ -220,20 +226,20 @@ fn fill(out: &mut [u8], from: usize, to: usize, first: u8, second: u8) {
 }
 
 // Writes groups within each other, a word before each: (a(a(a))).
-// They open up to the place `middle` and close up to `end`.
+// They open up to the index `middle` and close up to `end`.
 fn nested(text: &mut [u8], middle: usize, end: usize) {
     fill(text, 0, middle, b'(', b'a');
     fill(text, middle, end, b')', b')');
 }
 
-// Writes one group whose list alternates two bytes, with its ")" at the place `last`.
+// Writes one group whose list alternates two bytes, with its ")" at the index `last`.
 fn listed(text: &mut [u8], last: usize, first: u8, second: u8) {
     put(text, 0, b'(');
     fill(text, 1, last, first, second);
     put(text, last, b')');
 }
 
-// Eight levels are read; the ninth "(" is 15.
+// Runs the depth: eight levels are read, and the ninth "(" is 15.
 fn depth() {
     let mut eight = [0u8; 24];
     nested(&mut eight, 16, 24);
@@ -245,7 +251,7 @@ fn depth() {
     report(b"depth 8 and 9", t);
 }
 
-// 4,096 bytes are read; one more is 11 at 0.
+// Runs the length: 4,096 bytes are read, and one more is 11 at position 0.
 fn length() {
     let mut longest = [0u8; 4096];
     listed(&mut longest, 4095, b'a', b'a');
@@ -257,7 +263,7 @@ fn length() {
     report(b"4096 and 4097 bytes", t);
 }
 
-// Tries strings with little room.
+// Returns the tally with strings that have little room.
 fn little_room(mut t: Tally) -> Tally {
     t = tried(t, b"()", 0, Wanted::Nodes(0, 0));
     t = tried(t, b"(  )", 0, Wanted::Nodes(0, 0));
@@ -266,7 +272,8 @@ fn little_room(mut t: Tally) -> Tally {
     t
 }
 
-// 512 words are read, although the buffers have room for more; the next one is 14 at its first byte.
+// Runs the room: 512 words are read, although the buffers have room for more.
+// The next one is 14 at its first byte.
 fn room() {
     let mut most = [0u8; 1026];
     listed(&mut most, 1025, b'a', b' ');
@@ -278,7 +285,8 @@ fn room() {
     report(b"512 and 513 words", little_room(t));
 }
 
-// Strings as monitors give them: source 004's, two whole ones, one with windows, one that ends with a zero byte, one cut off.
+// Runs strings as monitors give them.
+// They are source 004's, two whole ones, one with windows, one that ends with a zero byte, and one cut off.
 fn monitors() {
     let mut t = none();
     t = nodes(t, b"(vcp(10 12 16 18 1A 50 92))", 8, 1847922888);

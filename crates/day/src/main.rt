@@ -1,4 +1,5 @@
-// A day at the water point, in one process: two displays, each at the end of its own bad line, from the tent's first message to dusk.
+// A day at the water point, in one process, from the tent's first message to dusk.
+// There are two displays, each at the end of its own bad line.
 // The hosts and the line stand in libraries of their own; here the displays are started, asked and stepped.
 mod site;
 mod starting;

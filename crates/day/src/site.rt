@@ -5,16 +5,23 @@ use display_rules::Display;
 use display_rules::limits::TABLE_ROOM;
 use message_rules::limits::OUTPUT_ROOM;
 
-// The display and the memory of its table, the line to it, its last reply and answer, and whether everything held so far.
+// A display, the line to it, and what became of it.
 pub(crate) struct Site {
+    // The display.
     pub(crate) display: Display,
+    // The memory of its table.
     pub(crate) table: [u8; TABLE_ROOM],
+    // The line to it.
     pub(crate) line: Line,
+    // Its last reply.
     pub(crate) reply: Frame,
+    // Its last answer.
     pub(crate) answer: u8,
+    // Whether everything held so far.
     pub(crate) good: bool,
 }
 
+// Returns a length as a number of bytes of a slice.
 fn wide(x: u16) -> usize {
     x as usize
 }
@@ -24,7 +31,7 @@ pub(crate) fn stored(s: Site) -> usize {
     wide(s.display.table.len)
 }
 
-// Returns the site with something more that should hold.
+// Returns the site with one more judgement: where it is not good, not everything held.
 pub(crate) fn also(mut s: Site, good: bool) -> Site {
     if good {
         return s;
@@ -59,7 +66,7 @@ pub(crate) fn deliver(mut s: Site, message: Frame) -> Site {
     s
 }
 
-// Returns the site after an action of the tent, which should come to what is wanted.
+// Returns the site after an action of the tent, with whether what is wanted came of it.
 pub(crate) fn act(mut s: Site, a: Action) -> Site {
     s = deliver(s, actions::message(a));
     let reply = s.reply;

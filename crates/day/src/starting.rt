@@ -7,7 +7,7 @@ use day_report::messages;
 use display_rules::limits::TABLE_ROOM;
 use message_rules::answer;
 
-// Returns a display at the end of a line, which goes by this seed.
+// Returns a display that was started, with this fragment size, at the end of a line that goes by this seed.
 fn placed(size: u16, seed: u64) -> Site {
     let text = texts::capabilities();
     let started = display::start(declared::timing(), &text, size);

@@ -42,7 +42,8 @@ pub(crate) fn write_list(mut s: Site, list: &[u8]) -> Site {
 
 // ---- 05:30, brightness and input
 
-// Returns the site after brightness, with a value that is refused; input; and the code that acts once.
+// Returns the site after three codes were set: brightness, input, and the code that acts once.
+// Brightness is also set to a value that is refused, and read back.
 pub(crate) fn adjust(mut s: Site) -> Site {
     s = site::act(s, Action::Set(BRIGHTNESS, 70, answer::DONE));
     s = site::act(

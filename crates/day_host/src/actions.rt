@@ -6,15 +6,19 @@ use message_reader::ReplyRead;
 use message_reader::reply::read_display_reply;
 use message_rules::answer;
 
-// A Set of a code to a value, with its answer; a Get of a code, with its value; a Save; and a write that clears the list.
+// A message of the tent, with what should come of it.
 pub enum Action {
+    // A Set of a code to a value, and the answer that it should have.
     Set(u8, u16, u8),
+    // A Get of a code, and the value that it should find.
     Get(u8, u16),
+    // A Save.
     Save,
+    // A Table write that clears the list.
     Clear,
 }
 
-// Returns the message. The list is cleared by a Table write at offset 0 without data.
+// Returns the message of an action. The list is cleared by a Table write at offset 0 without data.
 pub fn message(a: Action) -> Frame {
     match a {
         Action::Set(code, value, _) => requests::set(code, value),
@@ -36,7 +40,7 @@ fn value_of(reply: Frame) -> u16 {
     }
 }
 
-// Returns whether a number is the one wanted after an answer that is done.
+// Returns whether the answer is done and the number is the one wanted.
 fn done(answer: u8, number: usize, wanted: usize) -> bool {
     if answer == answer::DONE {
         return number == wanted;
@@ -44,14 +48,15 @@ fn done(answer: u8, number: usize, wanted: usize) -> bool {
     false
 }
 
-// Returns whether a Get found the value that is wanted. It is told.
+// Writes the value that a Get found, and returns whether it is the one wanted.
 fn got(code: u8, wanted: u16, answer: u8, reply: Frame) -> bool {
     let value = value_of(reply);
     messages::get(code, value);
     done(answer, value as usize, wanted as usize)
 }
 
-// Returns whether what should come of an action came of it: the display's answer, its reply, and how many bytes of a list are left. It is told.
+// Writes what came of an action, and returns whether it is what should come of it.
+// Judged are the display's answer, its reply, and how many bytes of a list are left.
 pub fn judged(a: Action, answer: u8, reply: Frame, left: usize) -> bool {
     match a {
         Action::Set(code, value, wanted) => {

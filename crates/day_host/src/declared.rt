@@ -21,7 +21,7 @@ pub fn timing() -> Timing {
     }
 }
 
-// Returns a declaration. Whether a value is kept decides whether it can be read.
+// Returns a declaration. A code is readable where its value is kept, and always writable.
 fn code(code: u8, kind: u8, continuous: bool, maximum: u16, present: u16) -> Declaration {
     Declaration {
         code: code,

@@ -1,4 +1,5 @@
-// The hosts of the day: what they send, and how they judge and tell what comes back. No display is stepped here.
+// The hosts of the day: what they send, and how they judge and tell what comes back.
+// No display is stepped here.
 // What is written for people has no contract; these functions are proved safe and ending.
 pub mod actions;
 pub mod declared;

@@ -1,4 +1,5 @@
-// 06:00 and 12:00: a host reads a text of a display over the line, fragment by fragment, and asks again where the line spoils an exchange.
+// 06:00 and 12:00: a host reads a text of a display over the line, fragment by fragment.
+// It asks again where the line spoils an exchange.
 use crate::requests;
 use day_line::Fate;
 use day_line::Frame;
@@ -20,16 +21,22 @@ pub const BUDGET: usize = 1500;
 // How many exchanges are shown in full.
 const SHOWN: u16 = 8;
 
-// A transfer under way, the line that it goes over, and how many of its exchanges are shown.
+// A transfer under way.
 pub struct Reading {
+    // The transfer.
     transfer: Transfer,
+    // The line that it goes over.
     pub line: Line,
+    // Its buffer.
     buffer: [u8; LONGEST_TEXT],
+    // What became of its exchanges.
     tally: Tally,
+    // How many of its exchanges are shown.
     shown: u16,
 }
 
-// Returns how many exchanges are shown: of the first display's list the first ones, below their heads.
+// Returns how many exchanges are shown in full: the first ones of the first display's list, else none.
+// Where some are, the heads of their columns are written.
 fn shown(kind: TextKind, number: u64) -> u16 {
     match kind {
         TextKind::Capabilities => 0,
@@ -43,7 +50,7 @@ fn shown(kind: TextKind, number: u64) -> u16 {
     }
 }
 
-// Returns a transfer before its first exchange.
+// Returns a reading before its first exchange.
 pub fn begin(kind: TextKind, number: u64, line: Line) -> Reading {
     let buffer = [0u8; LONGEST_TEXT];
     let begun = transfer::begin(kind, &buffer, BUDGET);
@@ -63,7 +70,8 @@ pub fn asked(r: Reading) -> Frame {
     day_line::heard(day_line::draw(r.line.seed), requests::fragment(t))
 }
 
-// Returns the reading with one more exchange counted, which began at this offset. It is told where it is among those that are shown.
+// Returns the reading with one more exchange counted, which began at this offset.
+// The exchange is written where it is among those that are shown.
 fn counted(mut r: Reading, fate: Fate, from: u16, came: usize, answer: u8) -> Reading {
     let t = r.transfer;
     let before = r.tally;
@@ -75,7 +83,7 @@ fn counted(mut r: Reading, fate: Fate, from: u16, came: usize, answer: u8) -> Re
     r
 }
 
-// Returns the reading after these bytes came.
+// Returns the reading after its transfer has received these bytes.
 fn received(mut r: Reading, fate: Fate, came: Frame) -> Reading {
     let before = r.transfer;
     let bytes = came.bytes;
@@ -108,7 +116,7 @@ fn runs(t: Transfer) -> bool {
     }
 }
 
-// Returns whether a transfer closed well.
+// Returns whether a transfer closed as done.
 fn closed(t: Transfer) -> bool {
     let state = t.state;
     match state {
@@ -125,7 +133,8 @@ pub fn goes_on(r: Reading) -> bool {
     runs(t)
 }
 
-// Returns whether a transfer closed well with every exchange accounted for, and whether it was the same as what was written. It is told.
+// Writes how a transfer went.
+// Returns whether it closed as done, with what was written, and with every exchange accounted for.
 fn closed_well(t: Transfer, tally: Tally, same: bool) -> bool {
     exchanges::transfer(tally, t.count, t.reached.0, same);
     if closed(t) {
@@ -136,7 +145,9 @@ fn closed_well(t: Transfer, tally: Tally, same: bool) -> bool {
     false
 }
 
-// Returns whether the tree of a text that was read is accepted. It is the same of both displays, and is shown once; a list has none.
+// Returns whether the text that was read is accepted.
+// Of the first display's capabilities string the tree is written, and the reader's verdict returned.
+// The second display has the same string, and a list has no tree: these are true.
 fn tree(kind: TextKind, number: u64, text: &[u8]) -> bool {
     match kind {
         TextKind::Capabilities => {
@@ -149,7 +160,8 @@ fn tree(kind: TextKind, number: u64, text: &[u8]) -> bool {
     }
 }
 
-// Returns whether a transfer came to the bytes that are wanted, and went as it should.
+// Writes how the transfer of a reading went.
+// Returns whether it came to the bytes that are wanted, and went as it should.
 pub fn judged(r: Reading, number: u64, wanted: &[u8]) -> bool {
     let t = r.transfer;
     let kind = t.kind;

@@ -40,7 +40,7 @@ pub(crate) fn records(profile: &[u8]) {
     record(behind(profile, RECORD_SIZE * 2));
 }
 
-// Writes the answer to a load, with its place where it is refused.
+// Writes the answer to a load, with its position where it is refused.
 pub(crate) fn loaded(what: &[u8], answer: u8, place: usize) {
     show::text(OUT, what);
     show::answer::meaning(OUT, answer);

@@ -41,14 +41,14 @@ pub(crate) fn save() -> Frame {
     framed(m, built)
 }
 
-// Returns a Table write of these bytes.
+// Returns a Table write of these bytes at an offset.
 pub(crate) fn write(at: u16, data: &[u8]) -> Frame {
     let mut m = [0u8; OUTPUT_ROOM];
     let built = request::build_table_write(TO_DISPLAY, TABLE_CODE, TextOffset(at), data, &mut m);
     framed(m, built)
 }
 
-// Returns what a transfer asks for next.
+// Returns the request for the fragment that a transfer asks for next.
 pub(crate) fn fragment(t: Transfer) -> Frame {
     let mut m = [0u8; OUTPUT_ROOM];
     let asked = transfer::request(t, &mut m);

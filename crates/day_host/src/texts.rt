@@ -1,19 +1,25 @@
-// The two texts of every display: its capabilities string, and the call list of 85 records of a token and a household.
+// The two texts of every display: its capabilities string, and the call list.
+// The list is 85 records of a token and a household.
 
+// The bytes of the capabilities string.
 pub const TEXT_SIZE: usize = 53;
 
 // The bytes of a record: its length (10), its kind (32), token and household, the low byte first.
 const RECORD: usize = 12;
 
+// How many records the list has.
 const RECORDS: usize = 85;
 
+// The bytes of the list.
 pub const LIST_SIZE: usize = 1020;
 
-// The tokens rise by one, the households come in a mixed order, each once.
+// The token of the first record. The tokens rise by one.
 const FIRST_TOKEN: usize = 101;
 
+// The lowest household.
 const FIRST_HOUSEHOLD: usize = 2000;
 
+// The step from one record's household to the next: they come in a mixed order, each once.
 const HOUSEHOLD_STEP: usize = 31;
 
 // Returns the capabilities string.
@@ -21,7 +27,7 @@ pub fn capabilities() -> [u8; TEXT_SIZE] {
     *b"(prot(monitor)vcp(01 10 12 60(0F 11)F4)mccs_ver(2.2))"
 }
 
-// Returns a byte of a record.
+// Returns the byte of a record at this index.
 fn byte_of(record: usize, field: usize) -> u8 {
     let r = record % RECORDS;
     let token = FIRST_TOKEN + r;

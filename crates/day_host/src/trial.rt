@@ -11,16 +11,21 @@ const PROFILE_ROOM: usize = RECORD_SIZE * 3;
 // The byte of the profile that is damaged: the kind of its second record.
 const DAMAGED: usize = 9;
 
-// A profile as it is written.
+// A profile as it was written.
 pub struct Profile {
+    // Its bytes.
     bytes: [u8; PROFILE_ROOM],
+    // How many they are.
     len: usize,
+    // The answer to the writing.
     answer: u8,
 }
 
-// What a load left: the settings, and whether it was answered as it should be.
+// What a load left.
 pub struct Left {
+    // The settings afterwards.
     pub settings: Settings,
+    // Whether the load was answered as it should be.
     pub good: bool,
 }
 
@@ -35,7 +40,8 @@ pub fn written(settings: Settings) -> Profile {
     }
 }
 
-// Returns whether the profile was written. It is told, of the first display with its records.
+// Writes the profile's size, of the first display its records too.
+// Returns whether it was written.
 pub fn told(p: Profile, number: u64) -> bool {
     records::size(p.len);
     if number == 1 {
@@ -45,7 +51,7 @@ pub fn told(p: Profile, number: u64) -> bool {
     p.answer == answer::DONE
 }
 
-// Returns what a load left, which should have this answer and place.
+// Returns what a load left, which should have this answer and position.
 fn tried(l: Loaded, wanted: u8, place: usize) -> Left {
     let settings = l.settings;
     let good = if l.answer == wanted {
@@ -59,7 +65,7 @@ fn tried(l: Loaded, wanted: u8, place: usize) -> Left {
     }
 }
 
-// Returns what loading a damaged copy left: it is refused at the damaged record.
+// Returns what loading a damaged copy left: it should be refused at the damaged record.
 pub fn damaged(settings: Settings, p: Profile) -> Left {
     let mut bytes = p.bytes;
     bytes[DAMAGED] = 2;
@@ -68,7 +74,7 @@ pub fn damaged(settings: Settings, p: Profile) -> Left {
     tried(l, answer::BROKEN_PROFILE, RECORD_SIZE)
 }
 
-// Returns what loading the profile left.
+// Returns what loading the profile left: it should be accepted.
 pub fn loaded(settings: Settings, p: Profile) -> Left {
     let bytes = p.bytes;
     let l = profile::load(settings, &bytes);

@@ -8,9 +8,10 @@ use message_rules::limits::MOST_WRITTEN;
 use show::part::behind;
 use show::part::front;
 
-// The writes that carry the list, and the messages that come of them.
+// How many writes carry the list.
 const WRITES: usize = (LIST_SIZE + MOST_WRITTEN - 1) / MOST_WRITTEN;
 
+// How many messages come of them.
 pub const MESSAGES: usize = WRITES + WRITES / 3;
 
 // Returns which write message k is: of each four messages the last is the third write again.
@@ -22,13 +23,14 @@ fn write_of(k: usize) -> usize {
     whole + k % 4
 }
 
-// Returns message k.
+// Returns message k of the writing of the list.
 pub fn message(list: &[u8], k: usize) -> Frame {
     let at = write_of(k) % WRITES * MOST_WRITTEN;
     requests::write(at as u16, front(behind(list, at), MOST_WRITTEN))
 }
 
-// Returns whether a display's table is the list, byte for byte, which is told.
+// Writes what came of the writing.
+// Returns whether a display's table is the list, byte for byte.
 pub fn judged(list: &[u8], table: [u8; TABLE_ROOM], stored: usize, sent: usize) -> bool {
     let same = check::same(list, front(&table, stored));
     messages::written(WRITES, sent as u64, stored, same);

@@ -1,4 +1,5 @@
-// A simulated line that loses, cuts, flips and repeats, by a fixed rule: what becomes of an exchange, as definitions in specs/, and a tally of it.
+// A simulated line that loses, cuts, flips and repeats, by a fixed rule.
+// What becomes of an exchange stands as definitions in specs/; a tally counts it.
 pub mod tally;
 
 ghost use mathlib.Core.Path.{_≡_};
@@ -7,23 +8,33 @@ use message_rules::limits::OUTPUT_ROOM;
 
 // What becomes of an exchange.
 pub enum Fate {
+    // Nothing is spoiled.
     Good,
+    // The request does not arrive.
     RequestLost,
+    // The reply does not arrive.
     ReplyLost,
+    // Only the first bytes of the reply arrive.
     Cut,
+    // One bit of the reply is turned over.
     Flipped,
+    // What came last arrives again, in place of the reply.
     Repeated,
 }
 
-// A message as it goes over a line: its bytes stand in front.
+// A message as it goes over a line.
 pub struct Frame {
+    // Its bytes, which stand in front.
     pub bytes: [u8; OUTPUT_ROOM],
+    // How many they are.
     pub len: usize,
 }
 
-// The number that the next fate is drawn from, and what came over the line last.
+// A line.
 pub struct Line {
+    // The number that the next fate is drawn from.
     pub seed: u64,
+    // What came over the line last.
     pub last: Frame,
 }
 
@@ -48,7 +59,7 @@ pub fn quiet(seed: u64) -> Line
     }
 }
 
-// Returns what becomes of the next exchange: five in sixteen are spoiled.
+// Returns what becomes of the next exchange. Five in sixteen are spoiled.
 pub fn draw(seed: u64) -> Fate
     ensures { λ r. ⌜ r ≡ rules.draw seed ⌝ }
 {
@@ -74,7 +85,8 @@ fn cut(f: Frame, n: usize) -> Frame
     }
 }
 
-// Returns what arrives of a request: one that is lost reaches the display as no bytes, which change nothing.
+// Returns what arrives of a request.
+// One that is lost reaches the display as no bytes, which change nothing.
 pub fn heard(fate: Fate, request: Frame) -> Frame
     ensures { λ r. ⌜ r ≡ rules.heard fate request ⌝ }
 {
@@ -88,7 +100,7 @@ pub fn heard(fate: Fate, request: Frame) -> Frame
     }
 }
 
-// Returns some number below n, or 0.
+// Returns a number below n that is drawn from the seed, or 0 where n is 0.
 fn below(n: usize, seed: u64) -> usize
     ensures { λ r. ⌜ r ≡ rules.below n seed ⌝ }
 {
@@ -121,7 +133,7 @@ fn flipped(reply: Frame, seed: u64) -> Frame
     }
 }
 
-// Returns what comes of a reply.
+// Returns what arrives of a reply.
 pub fn came(l: Line, fate: Fate, reply: Frame) -> Frame
     ensures { λ r. ⌜ r ≡ rules.came l fate reply ⌝ }
 {
@@ -135,7 +147,7 @@ pub fn came(l: Line, fate: Fate, reply: Frame) -> Frame
     }
 }
 
-// Returns the line after this came.
+// Returns the line after this frame came: with the next seed, and the frame as the last one where it has bytes.
 pub fn after(mut l: Line, f: Frame) -> Line
     ensures { λ r. ⌜ r ≡ rules.after l f ⌝ }
 {

@@ -1,12 +1,17 @@
 // What became of the exchanges of a transfer, in numbers.
 use crate::Fate;
 
-// How many exchanges were accepted, and how many were spoiled in each way.
+// What became of the exchanges that were counted.
 pub struct Tally {
+    // How many were accepted.
     pub accepted: u64,
+    // How many were not, their request or reply being lost.
     pub lost: u64,
+    // How many were not, their reply being cut.
     pub cut: u64,
+    // How many were not, a bit of their reply being flipped.
     pub flipped: u64,
+    // How many were not, the last reply having come again.
     pub repeated: u64,
 }
 
@@ -43,7 +48,8 @@ pub fn tallied(mut t: Tally, fate: Fate, accepted: bool) -> Tally {
     t
 }
 
-// Returns whether this many exchanges were all accepted or spoiled: what the line left alone was never refused.
+// Returns whether this many exchanges were all accepted or spoiled.
+// Then what the line left alone was never refused.
 pub fn all_told(t: Tally, count: u16) -> bool {
     let lost = sum(t.lost, t.cut);
     let other = sum(t.flipped, t.repeated);

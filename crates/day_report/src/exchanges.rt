@@ -9,7 +9,7 @@ use show::part::front;
 // The width of a fate's name, with the spaces behind it.
 const NAME: usize = 18;
 
-// Returns where a fate's name stands.
+// Returns where a fate's name stands in the list of names.
 fn column(fate: Fate) -> usize {
     match fate {
         Fate::Good => 0,
@@ -21,7 +21,7 @@ fn column(fate: Fate) -> usize {
     }
 }
 
-// Writes the name of a fate that stands here.
+// Writes the name of a fate, which stands here in the list of names.
 fn name(at: usize) {
     let names =
         b"good              request lost      reply lost        reply cut         bit flipped       last reply again  ";
@@ -36,7 +36,8 @@ pub fn heads() {
     );
 }
 
-// Writes an exchange in full: the offset asked for, what the line did, how many bytes came, and the offset afterwards.
+// Writes an exchange in full.
+// That is its number, the offset asked for, what the line did, how many bytes came, how many were joined, the answer.
 pub fn exchange(number: u16, from: u16, fate: Fate, came: usize, to: u16, answer: u8) {
     show::number(OUT, number as u64, 7);
     show::number(OUT, from as u64, 8);

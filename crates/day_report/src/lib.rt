@@ -1,4 +1,5 @@
-// What the day writes for people, line by line. No contract can speak of what is written; these functions are proved safe and ending.
+// What the day writes for people, line by line.
+// No contract can speak of what is written; these functions are proved safe and ending.
 pub mod exchanges;
 pub mod messages;
 
@@ -8,7 +9,7 @@ use show::part::front;
 // Where the day is told.
 pub const OUT: i32 = libc::STDOUT_FILENO;
 
-// Returns where the next `#` of a line stands, from this place on, or a place behind the line.
+// Returns the index of the next `#` of a line, from this index on, or one behind the line.
 fn mark(line: &[u8], from: usize) -> usize {
     let mut i = from;
     while i < line.len() {

@@ -4,20 +4,22 @@ use crate::line;
 use show::part::behind;
 use show::part::front;
 
-// The codes of the day, in the order of their names below.
+// The code of brightness. The codes of the day stand in the order of their names below.
 pub const BRIGHTNESS: u8 = 0x10;
 
+// The code of contrast.
 pub const CONTRAST: u8 = 0x12;
 
+// The code of the input.
 pub const INPUT: u8 = 0x60;
 
-// A momentary code: it acts once and keeps no value.
+// The code of degauss. It is momentary: it acts once and keeps no value.
 pub const DEGAUSS: u8 = 0x01;
 
 // The width of a code's name, with the spaces behind it.
 const NAME: usize = 12;
 
-// Returns where a code's name stands.
+// Returns where a code's name stands in the list of names.
 fn column(code: u8) -> usize {
     match code {
         BRIGHTNESS => 0,
@@ -35,7 +37,7 @@ fn value_of(what: &[u8], code: u8, value: u16) {
     show::number(OUT, value as u64, 3);
 }
 
-// Writes what came of a display's start, and the declaring of its codes.
+// Writes what came of a display's start, and of the declaring of its codes.
 pub fn started(number: u64, size: u16, started: u8, declared: u8) {
     line(
         b"  display #, which sends fragments of # bytes",

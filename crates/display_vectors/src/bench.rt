@@ -9,40 +9,52 @@ use message_rules::TextOffset;
 use message_rules::limits::MOST_WRITTEN;
 use message_rules::limits::OUTPUT_ROOM;
 
-// One byte more than a capabilities string may have, than a table's buffer has, and than a reply needs: rows lend
-// these sizes too.
+// One byte more than a capabilities string may have: rows lend this size too.
 pub(crate) const TEXT_ROOM: usize = 4097;
 
+// One byte more than a table's buffer has.
 pub(crate) const TABLE_BUFFER: usize = 1025;
 
+// One byte more than a reply needs.
 pub(crate) const OUT_ROOM: usize = 39;
 
-// The sizes that are right.
+// The right size of a table's buffer.
 const TABLE_BYTES: usize = 1024;
 
+// The size of an output that is enough.
 const OUT_BYTES: usize = 38;
 
 // What an output has in it before a step.
 pub(crate) const FILLING: u8 = 0xAA;
 
-// The writes that fill a table, and the reads that empty it: the last one is the empty fragment.
+// How many writes fill a table.
 const WRITES: u16 = 34;
 
+// How many reads bring it back: the last one is the empty fragment.
 const READS: usize = 33;
 
+// The fragment size that a table is read with.
 const SIZE: usize = 32;
 
-// `text` is the length of the capabilities string. `handed` says whether the fragment that was handed back is the
-// data of the reply. `good` is whether all rows of a group so far, `rows` of them, were as expected.
+// A display on a bench.
 pub(crate) struct Bench {
+    // The display.
     pub(crate) display: Display,
+    // The length of its capabilities string.
     pub(crate) text: usize,
+    // The memory of its table.
     pub(crate) table: [u8; TABLE_BUFFER],
+    // The output of its last step.
     pub(crate) out: [u8; OUT_ROOM],
+    // The length of the reply in it.
     pub(crate) len: usize,
+    // The answer of its last step.
     pub(crate) answer: u8,
+    // Whether the fragment that was handed back is the data of the reply.
     pub(crate) handed: bool,
+    // How many rows of the group were run.
     pub(crate) rows: u32,
+    // Whether all of them were as expected.
     pub(crate) good: bool,
 }
 
@@ -51,6 +63,7 @@ pub(crate) fn front(s: &[u8], n: usize) -> &[u8] {
     if n < s.len() { &s[0..n] } else { s }
 }
 
+// Returns the first n bytes of s to be written, or all of it where it is shorter.
 pub(crate) fn front_mut(s: &mut [u8], n: usize) -> &mut [u8] {
     if n < s.len() { &mut s[0..n] } else { s }
 }
@@ -85,7 +98,7 @@ fn data_in(reply: &[u8], n: usize) -> &[u8] {
     &reply[0..0]
 }
 
-// One step, with so many bytes of the text, of the table's buffer and of the output.
+// Returns the bench after one step, with so many bytes of the text, of the table's buffer and of the output.
 pub(crate) fn step(mut b: Bench, lent: usize, table: usize, room: usize, message: &[u8]) -> Bench {
     let before = b.display;
     let bytes = text();
@@ -110,12 +123,13 @@ pub(crate) fn step(mut b: Bench, lent: usize, table: usize, room: usize, message
     b
 }
 
-// One step with everything lent in its right size.
+// Returns the bench after one step with everything lent in its right size.
 pub(crate) fn obey(b: Bench, message: &[u8]) -> Bench {
     let lent = b.text;
     step(b, lent, TABLE_BYTES, OUT_BYTES, message)
 }
 
+// Returns the length of a message, or 0 where it was not built.
 fn length_of(built: Built) -> usize {
     match built {
         Built::Done(n) => n,
@@ -123,7 +137,8 @@ fn length_of(built: Built) -> usize {
     }
 }
 
-// Write k of the table of 1,024 bytes, in writes of 31: its bytes are k. The last write has one byte.
+// Returns the bench after write k of the table of 1,024 bytes, in writes of 31: its bytes are k.
+// The last write has one byte.
 fn write_part(b: Bench, k: u16) -> Bench {
     let part = k % WRITES;
     let data = [part as u8; MOST_WRITTEN];
@@ -140,7 +155,8 @@ fn write_part(b: Bench, k: u16) -> Bench {
     obey(b, front(&m, length_of(built)))
 }
 
-// Fills the table. A write that is refused is the last one, and its answer stays.
+// Returns the bench with its table filled.
+// A write that is refused is the last one, and its answer stays.
 pub(crate) fn fill(mut b: Bench) -> Bench {
     let mut k: u16 = 0;
     while k < WRITES {
@@ -165,20 +181,21 @@ pub(crate) fn expected() -> [u8; TABLE_BYTES] {
     bytes
 }
 
+// Returns the bench after a Table read at an offset.
 fn read(b: Bench, at: u16) -> Bench {
     let mut m = [0u8; OUTPUT_ROOM];
     let built = request::build_table_read(TO_DISPLAY, TABLE_CODE, TextOffset(at), &mut m);
     obey(b, front(&m, length_of(built)))
 }
 
-// Whether the reply carries these data, and they are what was handed back.
+// Returns whether the reply carries these data, and they are what was handed back.
 fn carries(b: Bench, data: &[u8]) -> bool {
     let out = b.out;
     b.handed && check::same(data_in(&out, b.len), data)
 }
 
-// Reads a table whole, fragment after fragment, and the empty one behind them. `handed` says whether they were these
-// bytes.
+// Returns the bench after its table was read whole, fragment after fragment, and the empty one behind them.
+// `handed` says whether they were these bytes.
 pub(crate) fn read_whole(mut b: Bench, bytes: &[u8]) -> Bench {
     let mut k: usize = 0;
     while k < READS {

@@ -3,17 +3,21 @@
 // No digit, or none yet.
 const NO_DIGIT: u8 = 16;
 
-// The pairs so far: how many, how many of them stand in front of the "=", whether there was one, the first digit of a
-// pair that is not whole yet, and whether the line is well formed.
+// What has been read of a line.
 pub(crate) struct Row {
+    // How many pairs stand in front of the "=".
     pub(crate) given: usize,
+    // How many pairs there are.
     pub(crate) count: usize,
+    // Whether there was a "=".
     marked: bool,
+    // The first digit of a pair that is not whole yet.
     digit: u8,
+    // Whether the line is well formed so far.
     sound: bool,
 }
 
-// Returns the value of a hexadecimal digit.
+// Returns the value of a hexadecimal digit, or 16 where the byte is none.
 fn digit(b: u8) -> u8 {
     match b {
         b'0'..=b'9' => b - b'0',
@@ -22,7 +26,7 @@ fn digit(b: u8) -> u8 {
     }
 }
 
-// What may stand between pairs: spaces and one "=".
+// Returns the row after a byte that may stand between pairs: a space, or the one "=".
 fn mark(mut row: Row, b: u8) -> Row {
     let count = row.count;
     if row.digit == NO_DIGIT {
@@ -39,7 +43,7 @@ fn mark(mut row: Row, b: u8) -> Row {
     row
 }
 
-// One more byte of the line. A pair of digits goes into the buffer.
+// Returns the row after one more byte of the line. A pair of digits goes into the buffer.
 fn step(mut row: Row, b: u8, octets: &mut [u8]) -> Row {
     let high = row.digit;
     let at = row.count;
@@ -61,7 +65,7 @@ fn step(mut row: Row, b: u8, octets: &mut [u8]) -> Row {
     row
 }
 
-// Returns the rest of a line, its pairs as bytes in the buffer.
+// Returns the row of the rest of a line, its pairs as bytes in the buffer.
 pub(crate) fn pairs(s: &[u8], octets: &mut [u8]) -> Row {
     let mut row = Row {
         given: 0,
@@ -77,7 +81,7 @@ pub(crate) fn pairs(s: &[u8], octets: &mut [u8]) -> Row {
     row
 }
 
-// Whether a line is whole: something is due, and no digit stands alone.
+// Returns whether a line is whole: something is due, and no digit stands alone.
 pub(crate) fn whole(row: Row) -> bool {
     row.sound && row.marked && row.digit == NO_DIGIT && row.given < row.count
 }

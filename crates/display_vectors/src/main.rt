@@ -1,8 +1,18 @@
-// Runs of a display that document 01 leaves to a program: a table of 1,024 and of 1,025 bytes, and a request that is sent twice. One line a group.
-use buffers::behind;
-use buffers::front;
-use display_rules::Display;
-use display_rules::limits::TABLE_ROOM;
+// Runs the rows of standard input on displays, and writes one line a group.
+// The form of the input stands at its head, in the file stdin.
+mod bench;
+mod line;
+
+use bench::Bench;
+use bench::FILLING;
+use bench::OUT_ROOM;
+use bench::TABLE_BUFFER;
+use bench::behind;
+use bench::front;
+use bench::front_mut;
+use bench::octet;
+use display_rules::Changed;
+use libc::STDIN_FILENO;
 use libc::STDOUT_FILENO;
 use settings::Declaration;
 use settings::Settings;
@@ -17,7 +27,8 @@ const LINE_ROOM: usize = 96;
 // The bytes of a start and of a declaration.
 const FIELDS: usize = 9;
 
-// The bytes of a buffers row in front of its message: the lengths of the text, of the table's buffer and of the output.
+// The bytes of a buffers row in front of its message.
+// They are the lengths of the text, of the table's buffer and of the output.
 const LENGTHS: usize = 5;
 
 // Returns the 16-bit number at an index, the high byte first, as in a message.
@@ -25,11 +36,19 @@ fn word(s: &[u8], at: usize) -> u16 {
     joined(octet(s, at), octet(s, at % 65536 + 1))
 }
 
-fn length_of(built: Built) -> usize {
-    match built {
-        Built::Done(n) => n,
-        Built::Refused(answer) => 0,
-    }
+// Returns the 16-bit number of a high and a low byte.
+fn joined(high: u8, low: u8) -> u16 {
+    high as u16 * 256 + low as u16
+}
+
+// Returns a 16-bit number as a length.
+fn wide(n: u16) -> usize {
+    n as usize
+}
+
+// Returns a byte as a length.
+fn byte_wide(n: u8) -> usize {
+    n as usize
 }
 
 // Returns the answer that is due, which is written in decimal.
@@ -38,7 +57,7 @@ fn answer_due(due: &[u8]) -> u8 {
     digits / 16 * 10 + digits % 16
 }
 
-// Whether these bytes, and no others, stand at the start of an output.
+// Returns whether these bytes, and no others, stand at the start of an output.
 fn holds(out: &[u8], n: usize, bytes: &[u8]) -> bool {
     let filling = [FILLING; OUT_ROOM];
     if n != bytes.len() {
@@ -47,26 +66,29 @@ fn holds(out: &[u8], n: usize, bytes: &[u8]) -> bool {
     check::same(front(out, n), bytes) && check::same(behind(out, n), behind(&filling, n))
 }
 
+// Returns the bench with one row more, and whether it was as expected.
 fn count(mut b: Bench, good: bool) -> Bench {
     b.rows = std::num::wrapping_add_u32(b.rows, 1);
     b.good = b.good && good;
     b
 }
 
-// Counts a start or a declaration, by the answer alone.
+// Counts a start or a declaration, by the answer alone. Returns the bench afterwards.
 fn answered(b: Bench, answer: u8, given: &[u8], due: &[u8]) -> Bench {
     let good = answer == answer_due(due) && given.len() == FIELDS && due.len() == 1;
     count(b, good)
 }
 
 // Counts a row by what a step gave: the answer, each byte of the output, and the fragment that was handed back.
+// Returns the bench afterwards.
 fn replied(b: Bench, due: &[u8]) -> Bench {
     let out = b.out;
     let good = b.answer == answer_due(due) && holds(&out, b.len, behind(due, 1)) && b.handed;
     count(b, good)
 }
 
-// Returns the display that a row starts: status, horizontal, vertical, fragment size, length of the capabilities string.
+// Returns the display that a row starts.
+// The row has the status, horizontal, vertical, the fragment size, and the length of the capabilities string.
 fn started(given: &[u8]) -> Changed {
     let timing = Timing {
         status: octet(given, 0),
@@ -77,11 +99,12 @@ fn started(given: &[u8]) -> Changed {
     display::start(timing, front(&bytes, wide(word(given, 7))), word(given, 5))
 }
 
-// Returns the length of its capabilities string; a display that was refused has none.
+// Returns the length of the capabilities string of a display that a row starts; one that was refused has none.
 fn text_length(answer: u8, given: &[u8]) -> usize {
     if answer == 0 { wide(word(given, 7)) } else { 0 }
 }
 
+// Returns the bench with the display that a row starts.
 fn start(mut b: Bench, given: &[u8], due: &[u8]) -> Bench {
     let s = started(given);
     let display = s.display;
@@ -103,6 +126,7 @@ fn declaration(given: &[u8]) -> Declaration {
     }
 }
 
+// Returns the bench with the code declared that a row names.
 fn declare(mut b: Bench, given: &[u8], due: &[u8]) -> Bench {
     let before = b.display;
     let s = display::declare(before, declaration(given));
@@ -111,7 +135,7 @@ fn declare(mut b: Bench, given: &[u8], due: &[u8]) -> Bench {
     answered(b, s.answer, given, due)
 }
 
-// A message with buffers of these lengths.
+// Returns the bench after a message with buffers of the lengths that a row gives.
 fn buffers(b: Bench, given: &[u8], due: &[u8]) -> Bench {
     let text = wide(word(given, 0));
     let table = wide(word(given, 2));
@@ -122,20 +146,21 @@ fn buffers(b: Bench, given: &[u8], due: &[u8]) -> Bench {
     )
 }
 
-// Whether the profile is written as it should be into an output of this length.
+// Returns whether the profile is written as it should be into an output of this length.
 fn writes(settings: Settings, room: usize, due: &[u8]) -> bool {
     let mut out = [FILLING; OUT_ROOM];
     let w = profile::write(settings, front_mut(&mut out, room));
     w.answer == answer_due(due) && holds(&out, w.len, behind(due, 1))
 }
 
+// Returns the bench after its profile was written into an output of the length that a row gives.
 fn write_profile(b: Bench, given: &[u8], due: &[u8]) -> Bench {
     let display = b.display;
     let good = writes(display.settings, byte_wide(octet(given, 0)), due);
     count(b, good)
 }
 
-// Loads a profile; the place is due behind the answer.
+// Returns the bench after a profile was loaded; its position is due behind the answer.
 fn load_profile(mut b: Bench, given: &[u8], due: &[u8]) -> Bench {
     let mut display = b.display;
     let settings = display.settings;
@@ -147,7 +172,7 @@ fn load_profile(mut b: Bench, given: &[u8], due: &[u8]) -> Bench {
     count(b, good)
 }
 
-// Reads a filled table back.
+// Returns the bench after a filled table was read back.
 fn whole(mut b: Bench, due: &[u8]) -> Bench {
     let bytes = bench::expected();
     b = bench::read_whole(b, &bytes);
@@ -155,7 +180,7 @@ fn whole(mut b: Bench, due: &[u8]) -> Bench {
     count(b, good)
 }
 
-// A row by the first letter of its word.
+// Returns the bench after a row, which is told by the first letter of its word.
 fn run_row(b: Bench, letter: u8, given: &[u8], due: &[u8]) -> Bench {
     match letter {
         b's' => start(b, given, due),
@@ -170,7 +195,7 @@ fn run_row(b: Bench, letter: u8, given: &[u8], due: &[u8]) -> Bench {
     }
 }
 
-// A line that is malformed counts as a row that fails.
+// Returns the bench after a line with pairs. A line that is malformed counts as a row that fails.
 fn run_pairs(b: Bench, s: &[u8], from: usize) -> Bench {
     let mut space = [0u8; LINE_ROOM];
     let row = line::pairs(behind(s, from), &mut space);
@@ -196,7 +221,7 @@ fn close(rows: u32, good: bool) {
     }
 }
 
-// Ends the group before, and begins one.
+// Ends the line of the group before, and begins one. Returns the bench with no row counted.
 fn begin(mut b: Bench, s: &[u8]) -> Bench {
     if b.rows != 0 {
         close(b.rows, b.good);
@@ -208,7 +233,7 @@ fn begin(mut b: Bench, s: &[u8]) -> Bench {
     b
 }
 
-// A line: a group's name in brackets, a row, a comment, or nothing.
+// Returns the bench after a line: a group's name in brackets, a row, a comment, or nothing.
 fn run_line(b: Bench, s: &[u8]) -> Bench {
     match octet(s, 0) {
         0 => b,
@@ -218,7 +243,7 @@ fn run_line(b: Bench, s: &[u8]) -> Bench {
     }
 }
 
-// Returns what the last group came to.
+// Returns the bench after all lines, with what the last group came to.
 fn run_lines(mut b: Bench, s: &[u8]) -> Bench {
     let mut at = 0;
     while at < s.len() {

@@ -1,4 +1,5 @@
-// What the host does before it reads: it starts the display, declares codes, writes the list, and sets and gets brightness.
+// What the host does before it reads.
+// It starts the display, declares codes, writes the table, and sets and gets brightness.
 use crate::pipe;
 use crate::pipe::Host;
 use buffers::behind;
@@ -13,6 +14,7 @@ use message_rules::TextOffset;
 use message_rules::limits::MOST_WRITTEN;
 use message_rules::limits::OUTPUT_ROOM;
 
+// The VCP code of brightness.
 const BRIGHTNESS: u8 = 0x10;
 
 // The brightness that is set.
@@ -21,10 +23,13 @@ pub(crate) const BRIGHT: u16 = 70;
 // How often a Get is sent where the line spoils its reply.
 const TRIES: usize = 50;
 
-// The host after a Get, whether a value came, and the value.
+// What a Get brought.
 pub(crate) struct Got {
+    // The host afterwards.
     pub(crate) host: Host,
+    // Whether a value came.
     pub(crate) came: bool,
+    // The value, or 0.
     pub(crate) present: u16,
 }
 

@@ -4,39 +4,53 @@ use libc::STDOUT_FILENO;
 use message_rules::answer::DONE;
 use message_rules::limits::OUTPUT_ROOM;
 
-// The kinds of records that the host sends.
+// The kind of a record that starts the display.
 pub(crate) const START: u8 = 1;
 
+// The kind of a record that declares a code.
 pub(crate) const DECLARE: u8 = 2;
 
+// The kind of a record that carries a message.
 pub(crate) const MESSAGE: u8 = 3;
 
 // The bytes in front of a reply: the answer number and the reply's length.
 const HEAD: usize = 3;
 
-// What went wrong on the pipe.
+// What went wrong on the pipe: nothing.
 pub(crate) const NONE: u8 = 0;
 
+// The input had ended before a record.
 pub(crate) const ENDED: u8 = 1;
 
+// The record ends in the middle.
 pub(crate) const CUT: u8 = 2;
 
+// The record's reply is longer than any message.
 pub(crate) const TOO_LONG: u8 = 3;
 
+// The record has a reply where none is due.
 pub(crate) const NOT_DUE: u8 = 4;
 
+// The answer is a refusal where 0 is due.
 pub(crate) const REFUSED: u8 = 5;
 
+// The output is closed.
 pub(crate) const NOT_WRITTEN: u8 = 6;
 
+// The input cannot be read.
 pub(crate) const NOT_READ: u8 = 7;
 
-// How many records were sent; of the last one that came back the answer, the reply and its length; and what went wrong.
+// The host's end of the pipe.
 pub(crate) struct Host {
+    // How many records were sent.
     pub(crate) records: u64,
+    // The answer number of the last record that came back.
     pub(crate) answer: u8,
+    // The reply in that record, in front.
     pub(crate) reply: [u8; OUTPUT_ROOM],
+    // The length of that reply.
     pub(crate) len: usize,
+    // What went wrong, as one of the numbers above.
     pub(crate) fault: u8,
 }
 
@@ -104,7 +118,7 @@ fn read_head(mut h: Host) -> Host {
     h
 }
 
-// Returns the host with the reply behind that head.
+// Returns the host with the reply behind the head that was read.
 fn read_reply(mut h: Host) -> Host {
     let mut reply = [0u8; OUTPUT_ROOM];
     let length = h.len;
@@ -127,7 +141,8 @@ fn read_record(mut h: Host) -> Host {
     h
 }
 
-// Sends a record, and returns the host with the one that comes back. After a fault nothing more is sent.
+// Sends a record, and returns the host with the one that comes back.
+// After a fault nothing more is sent.
 pub(crate) fn exchange(mut h: Host, kind: u8, body: &[u8]) -> Host {
     if h.fault != NONE {
         return h;
@@ -140,6 +155,7 @@ pub(crate) fn exchange(mut h: Host, kind: u8, body: &[u8]) -> Host {
 }
 
 // Sends a record that should be answered with 0 and no reply.
+// Returns the host, with a fault where the answer is another.
 pub(crate) fn tell(mut h: Host, kind: u8, body: &[u8]) -> Host {
     h = exchange(h, kind, body);
     if h.fault != NONE {

@@ -1,4 +1,5 @@
-// A text read back through a transfer. What the line has spoiled is given to the transfer as it came: it counts, and is asked for again.
+// A text read back through a transfer.
+// What the line has spoiled is given to the transfer as it came: it counts, and is asked for again.
 use crate::pipe;
 use crate::pipe::Host;
 use buffers::front;
@@ -11,10 +12,13 @@ use transfer_rules::Transfer;
 // How many exchanges a transfer may take.
 const BUDGET: usize = 500;
 
-// The host after some exchanges, the transfer and its buffer.
+// A text that is being read.
 pub(crate) struct Reading {
+    // The host after some exchanges.
     pub(crate) host: Host,
+    // The transfer.
     pub(crate) transfer: Transfer,
+    // The transfer's buffer.
     pub(crate) buffer: [u8; LONGEST_TEXT],
 }
 
@@ -47,7 +51,7 @@ fn ask(h: Host, t: Transfer) -> Host {
     pipe::exchange(h, pipe::MESSAGE, front(&request, asked.len))
 }
 
-// Returns the transfer after the reply that came was given to it.
+// Returns the reading after the reply that came was given to its transfer.
 fn receive(mut r: Reading, h: Host) -> Reading {
     let before = r.transfer;
     let reply = h.reply;
@@ -59,7 +63,7 @@ fn receive(mut r: Reading, h: Host) -> Reading {
     r
 }
 
-// Returns the transfer after one exchange.
+// Returns the reading after one exchange.
 fn exchange(mut r: Reading) -> Reading {
     let mut h = r.host;
     let t = r.transfer;
@@ -77,7 +81,7 @@ fn goes_on(r: Reading) -> bool {
     is_running(t)
 }
 
-// Returns the transfer after exchanges until it closes, or the budget's number of them.
+// Returns the reading after exchanges until its transfer closes, or after the budget's number of them.
 fn exchanges(mut r: Reading) -> Reading {
     let mut left = BUDGET;
     while left > 0 {

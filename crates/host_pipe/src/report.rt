@@ -1,4 +1,5 @@
-// What the host found, for people: standard output carries the records, so it goes to standard error.
+// What the host found, for people.
+// It goes to standard error, because standard output carries the records.
 use crate::job::BRIGHT;
 use crate::pipe;
 use crate::pipe::Host;
@@ -8,6 +9,7 @@ use buffers::front;
 use libc::STDERR_FILENO;
 use transfer_rules::Transfer;
 
+// Where the report goes.
 const TO: i32 = STDERR_FILENO;
 
 // Writes that a record which should be taken is not, and what to do.
@@ -98,7 +100,7 @@ pub(crate) fn string(r: Reading, wanted: &[u8]) -> bool {
     false
 }
 
-// Writes how the call list was read, and returns whether it is the one that was written.
+// Writes how the table was read, and returns whether it is the list that was written.
 pub(crate) fn table(r: Reading, wanted: &[u8]) -> bool {
     compared(b"call list", r, wanted)
 }

@@ -1,4 +1,5 @@
-// What the programs write for people: texts, numbers in columns, answer numbers with their meaning, and the tree of a capabilities string.
+// What the programs write for people.
+// They write texts, numbers in columns, answer numbers with their meaning, and the tree of a capabilities string.
 // The first parameter is where to: standard output or standard error.
 // No contract can speak of what is written: these functions are proved safe and ending, and show_vectors runs them.
 pub mod answer;
@@ -56,7 +57,7 @@ pub fn hex(to: i32, b: u8) {
     text(to, &digits);
 }
 
-// Writes a byte likewise, behind a space.
+// Writes a space, and a byte in two hexadecimal digits.
 fn spaced_hex(to: i32, b: u8) {
     let digits = [b' ', digit(b / 16), digit(b)];
     text(to, &digits);

@@ -13,6 +13,7 @@ ghost use Rattle.message_rules.specs.Answer.{done};
 ghost use Rattle.capabilities_rules.specs.Limits.{mostNodes};
 ghost use Rattle.capabilities_rules.specs.Outcome.{told, outcome};
 
+// Returns an entry of a buffer as an index.
 fn wide(x: u16) -> usize {
     x as usize
 }
@@ -74,11 +75,15 @@ fn refusal(to: i32, margin: &[u8], number: u8, place: Position) {
     text(to, b"\n");
 }
 
-// What a capabilities string is read to: the words' places and lengths, and their parents.
+// What a capabilities string is read to: the reading, and for each word an entry in each buffer.
 struct Nodes {
+    // Where the word starts in the string.
     starts: [u16; MOST_NODES],
+    // How long it is.
     lengths: [u16; MOST_NODES],
+    // The node of the word whose group it stands in, or 65,535 at the top.
     parents: [u16; MOST_NODES],
+    // The number of nodes, or the refusal.
     reading: Reading,
 }
 
@@ -107,7 +112,8 @@ fn tree(to: i32, margin: &[u8], string: &[u8], n: Nodes, count: usize) {
     words(to, margin, string, &starts, &lengths, &parents, count);
 }
 
-// Writes the tree of a capabilities string, each line behind the margin: a word a line, indented by two spaces a level.
+// Writes the tree of a capabilities string, each line behind the margin.
+// There is one word a line, indented by two spaces a level.
 // A string that is refused gives one line, `refused N at P`.
 // Returns whether it was accepted: whether its answer number is 0.
 pub fn write(to: i32, margin: &[u8], string: &[u8]) -> bool
@@ -127,7 +133,7 @@ pub fn write(to: i32, margin: &[u8], string: &[u8]) -> bool
     }
 }
 
-// Writes which byte is refused; a line end behind the string is the one that `echo` leaves.
+// Writes which byte is refused. A line end behind the string is the one that `echo` leaves.
 fn refused_byte(to: i32, place: Position, b: u8) {
     crate::counted(to, b": byte ", place.0 as u64, b" is ");
     crate::hex(to, b);
@@ -158,7 +164,8 @@ fn spot(to: i32, string: &[u8], number: u8, place: Position) {
     }
 }
 
-// Writes for people why a string is refused, as one line that begins with `who`; nothing where it is accepted.
+// Writes for people why a string is refused, as one line that begins with `who`.
+// Of a string that is accepted nothing is written.
 pub fn explain(to: i32, who: &[u8], string: &[u8]) {
     let n = read(string);
     let reading = n.reading;

@@ -11,13 +11,15 @@ use message_rules::TO_HOST;
 use message_rules::TextKind;
 use message_rules::TextOffset;
 
-// The fragment cursor.
+// The fragment that was sent last.
 pub(crate) struct Cursor {
+    // Where it starts in the text.
     pub(crate) offset: usize,
+    // Its length.
     pub(crate) size: usize,
 }
 
-// The length of the next fragment: as fixed, or 1 to 32 where that is 0; at most the bytes left.
+// Returns the length of the next fragment: as fixed, or 1 to 32 where that is 0; at most the bytes left.
 fn choose(fixed: usize, left: usize, seed: u64) -> usize {
     let mut n = fixed;
     if fixed == 0 {
@@ -26,7 +28,10 @@ fn choose(fixed: usize, left: usize, seed: u64) -> usize {
     if n < left { n } else { left }
 }
 
-// The cursor after a request for offset q.
+// Returns the cursor after a request for offset q.
+// Where q is behind the last fragment, the next one is sent.
+// Where q is the last one's offset, and not 0, that one is sent again.
+// Any other request goes to the start of the text.
 pub(crate) fn moved(c: Cursor, q: usize, total: usize, fixed: usize, seed: u64) -> Cursor {
     if q != 0 {
         if q == c.offset {
@@ -49,7 +54,7 @@ pub(crate) fn moved(c: Cursor, q: usize, total: usize, fixed: usize, seed: u64) 
     }
 }
 
-// The offset that a request asks for.
+// Returns the offset that a request asks for, or 0.
 pub(crate) fn asked(request: Frame) -> usize {
     let bytes = request.bytes;
     match read_request(TO_DISPLAY, buffers::front(&bytes, request.len)) {
@@ -64,6 +69,7 @@ pub(crate) fn asked(request: Frame) -> usize {
     }
 }
 
+// Returns the length of a message, or 0 where it was not built.
 fn length_of(built: Built) -> usize {
     match built {
         Built::Done(n) => n,
@@ -71,6 +77,7 @@ fn length_of(built: Built) -> usize {
     }
 }
 
+// Returns the message of a fragment.
 fn built(kind: TextKind, at: TextOffset, data: &[u8]) -> Frame {
     let mut out = [0u8; ROOM];
     let built = match kind {
@@ -83,7 +90,7 @@ fn built(kind: TextKind, at: TextOffset, data: &[u8]) -> Frame {
     }
 }
 
-// The fragment at the cursor.
+// Returns the message of the fragment at the cursor, or none where the text has no such part.
 pub(crate) fn fragment(kind: TextKind, text: &[u8], offset: usize, size: usize) -> Frame {
     if text.len() < offset {
         return line::silence();

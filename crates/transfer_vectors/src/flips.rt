@@ -3,7 +3,7 @@ use crate::run;
 use message_rules::TextKind;
 use transfer_rules::Transfer;
 
-// Receives a reply, and writes the answer.
+// Receives a reply, and writes the answer. Returns the transfer afterwards.
 fn offered(t: Transfer, buffer: &mut [u8], reply: &[u8]) -> Transfer {
     let received = transfer::receive(t, buffer, reply);
     io::print_decimal(1, received.answer as u64);
@@ -11,8 +11,9 @@ fn offered(t: Transfer, buffer: &mut [u8], reply: &[u8]) -> Transfer {
     received.transfer
 }
 
+// Writes how a transfer ends whose line flips the same bit of two bytes.
 // The display sends "(10)" in one fragment, 6E 87 E3 00 00 28 31 30 29 5A, and then the empty one, 6E 83 E3 00 04 5A.
-// The line turns over bit 0 of 31 and of 30, and the exclusive or of all bytes is as before.
+// The line turns over bit 0 of 31 and of 30, and the exclusive-or of all bytes is as before.
 // So the host reads a fragment of the very offset that it wants, and the transfer is done with "(01)".
 pub(crate) fn two_flips() {
     let mut buffer = [0xEEu8; 6];

@@ -1,14 +1,22 @@
 // A small fixed pseudo-random line.
 
-// A message on the line: its bytes stand in front.
+// A message on the line.
 pub(crate) struct Frame {
+    // Its bytes, which stand in front.
     pub(crate) bytes: [u8; ROOM],
+    // How many they are.
     pub(crate) len: usize,
 }
 
 // The bytes of output that a builder needs.
 pub(crate) const ROOM: usize = 38;
 
+// Returns the first n bytes, or all where there are fewer.
+pub(crate) fn front(s: &[u8], n: usize) -> &[u8] {
+    if n < s.len() { &s[0..n] } else { s }
+}
+
+// Returns a frame without bytes: nothing came.
 pub(crate) fn silence() -> Frame {
     Frame {
         bytes: [0u8; ROOM],
@@ -16,17 +24,17 @@ pub(crate) fn silence() -> Frame {
     }
 }
 
-// The next number of the sequence.
+// Returns the number of the sequence that follows this one.
 pub(crate) fn next(seed: u64) -> u64 {
     (seed % 2147483648 * 1103515245 + 12345) % 2147483648
 }
 
-// A number below 10, from the upper half of the seed, which is the better one.
+// Returns a number below 10, from the upper half of the seed, which is the better one.
 pub(crate) fn digit(seed: u64) -> u64 {
     seed / 65536 % 10
 }
 
-// A reply of n bytes without its last one.
+// Returns a reply without its last byte.
 fn cut(mut reply: Frame) -> Frame {
     if reply.len > 0 {
         reply.len = reply.len - 1;
@@ -35,7 +43,7 @@ fn cut(mut reply: Frame) -> Frame {
     reply
 }
 
-// A reply with a bit of its middle byte turned over.
+// Returns a reply with a bit of its middle byte turned over.
 fn flipped(mut reply: Frame) -> Frame {
     let at = reply.len / 2;
     let mut bytes = reply.bytes;
@@ -47,7 +55,8 @@ fn flipped(mut reply: Frame) -> Frame {
     reply
 }
 
-// What comes of a reply. With a noise of k, k replies in ten are lost, cut or have a byte flipped.
+// Returns what comes of a reply.
+// With a noise of k, k replies in ten are lost, cut or have a bit flipped.
 pub(crate) fn carry(reply: Frame, noise: u64, seed: u64) -> Frame {
     let d = digit(seed);
     if noise <= d {

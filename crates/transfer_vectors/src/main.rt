@@ -1,5 +1,6 @@
-// Transfers over a simulated line: budgets of L and L + 1, fragments of 1, 31, 32 and mixed lengths, with and without noise,
-// by value and in place, held to what demand 3 says of them; and a line that breaks what demand 3 supposes.
+// Runs transfers over a simulated line, and holds them to what demand 3 says of them.
+// They have budgets of L and L + 1, fragments of 1, 31, 32 and mixed lengths, and lines with and without noise.
+// They go by value and in place. The last line breaks what demand 3 supposes.
 mod display;
 mod flips;
 mod line;
@@ -7,12 +8,13 @@ mod run;
 
 use message_rules::TextKind;
 
+// Writes a text and a number behind it.
 fn counted(what: &[u8], n: u16) {
     io::write_all(1, what);
     io::print_decimal(1, n as u64);
 }
 
-// One line of output: what was run, how the transfer ended, and whether the buffer is as demand 3 says.
+// Writes one line: what was run, how the transfer ended, and whether the buffer is as demand 3 says.
 fn report(name: &[u8], o: run::Ended) {
     io::write_all(1, name);
     io::write_all(1, b": ");
@@ -27,7 +29,7 @@ fn report(name: &[u8], o: run::Ended) {
     }
 }
 
-// A perfect line: fragments of one byte need exactly L + 1 exchanges.
+// Runs a perfect line: fragments of one byte need exactly L + 1 exchanges.
 fn budgets() {
     report(
         b"fragments of 1, budget L",
@@ -47,6 +49,7 @@ fn budgets() {
     );
 }
 
+// Runs a perfect line with fragments of 31, of 32 and of mixed lengths.
 fn sizes() {
     report(
         b"fragments of 31",
@@ -62,7 +65,7 @@ fn sizes() {
     );
 }
 
-// A line that spoils three replies in ten: 200 bytes and 300 exchanges leave room for 99 spoiled ones.
+// Runs a line that spoils three replies in ten: 200 bytes and 300 exchanges leave room for 99 spoiled ones.
 fn noise() {
     report(
         b"noisy line, fragments of 31",

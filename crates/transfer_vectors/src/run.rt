@@ -12,37 +12,51 @@ use transfer_rules::Transfer;
 // The bytes of the buffer.
 const SIZE: usize = 240;
 
-// What the buffer holds before.
+// What every byte of the buffer is before.
 const BEFORE: u8 = 0xEE;
 
 // How many exchanges a list has.
 const EXCHANGES: usize = 300;
 
+// How a transfer ended.
 pub(crate) struct Ended {
+    // Its state.
     pub(crate) state: State,
+    // The offset that it reached.
     pub(crate) reached: u16,
+    // How many exchanges it counted.
     pub(crate) count: u16,
+    // Whether the buffer is as demand 3 says.
     pub(crate) right: bool,
 }
 
-// The transfer and its buffer, the display's cursor, what came back last, and the line's seed.
+// A transfer and what stands around it.
 struct World {
+    // The transfer.
     transfer: Transfer,
+    // The buffer that it fills.
     buffer: [u8; SIZE],
+    // The display's cursor.
     cursor: Cursor,
+    // What came back last.
     reply: Frame,
+    // The line's seed.
     seed: u64,
 }
 
-// What is run: a text of a kind, in fragments of a fixed length (0: mixed), over a line with this noise;
-// and whether the transfer is moved on in place.
+// What is run.
 struct Setup {
+    // The text that is read.
     kind: TextKind,
+    // The length of its fragments; 0 is mixed lengths.
     fixed: usize,
+    // How many replies in ten the line spoils.
     noise: u64,
+    // Whether the transfer is moved on in place.
     in_place: bool,
 }
 
+// Writes the name of a state.
 pub(crate) fn write_state(state: State) {
     match state {
         State::Running => io::write_all(1, b"running"),
@@ -53,6 +67,7 @@ pub(crate) fn write_state(state: State) {
     ;
 }
 
+// Returns the transfer's request, without bytes where the transfer is closed.
 fn request(t: Transfer) -> Frame {
     let mut out = [0u8; ROOM];
     let requested = transfer::request(t, &mut out);
@@ -62,7 +77,8 @@ fn request(t: Transfer) -> Frame {
     }
 }
 
-// The request of a transfer goes to the display, whose reply goes over the line. A closed transfer asks for nothing.
+// Returns the world after the display's turn: the request goes to it, and its reply over the line.
+// A closed transfer asks for nothing.
 fn turn(mut w: World, s: Setup, text: &[u8]) -> World {
     let t = w.transfer;
     let before = w.cursor;
@@ -89,6 +105,7 @@ fn moved_on(t: Transfer, buffer: &mut [u8], reply: &[u8], in_place: bool) -> Rec
     transfer::receive(t, buffer, reply)
 }
 
+// Returns the world after the transfer has received a reply.
 fn receive(mut w: World, reply: Frame, in_place: bool) -> World {
     let before = w.transfer;
     let bytes = reply.bytes;
@@ -105,7 +122,7 @@ fn receive(mut w: World, reply: Frame, in_place: bool) -> World {
     w
 }
 
-// Asking, the display's turn, and receiving what came back.
+// Returns the world after one exchange: asking, the display's turn, and receiving what came back.
 fn exchange(mut w: World, s: Setup, text: &[u8]) -> World {
     w = turn(w, s, text);
     let reply = w.reply;
@@ -113,7 +130,7 @@ fn exchange(mut w: World, s: Setup, text: &[u8]) -> World {
     receive(w, reply, s.in_place)
 }
 
-// Whether the buffer begins with the text's first bytes, so many as were reached, and is otherwise as it was.
+// Returns whether the buffer begins with the text's first bytes, so many as were reached, and is otherwise as it was.
 fn is_right(text: &[u8], buffer: &[u8], reached: usize) -> bool {
     for i in 0..buffer.len() {
         if i < reached {
@@ -130,12 +147,14 @@ fn is_right(text: &[u8], buffer: &[u8], reached: usize) -> bool {
     true
 }
 
+// Fills a text: its bytes count from 0 to 250, and begin again.
 fn fill(text: &mut [u8]) {
     for i in 0..text.len() {
         text[i] = (i % 251) as u8;
     }
 }
 
+// Returns the world after the whole list of exchanges.
 fn exchanges(mut w: World, s: Setup, text: &[u8]) -> World {
     for _ in 0..EXCHANGES {
         let next = exchange(w, s, text);
@@ -144,6 +163,7 @@ fn exchanges(mut w: World, s: Setup, text: &[u8]) -> World {
     w
 }
 
+// Returns the world before the first exchange. The display's cursor stands anywhere.
 fn begin(kind: TextKind, budget: usize) -> World {
     let buffer = [BEFORE; SIZE];
     let begun = transfer::begin(kind, &buffer, budget);
@@ -161,6 +181,7 @@ fn begin(kind: TextKind, budget: usize) -> World {
     }
 }
 
+// Returns how the transfer of a world ended.
 fn judged(w: World, text: &[u8]) -> Ended {
     let t = w.transfer;
     let state = t.state;
@@ -174,12 +195,14 @@ fn judged(w: World, text: &[u8]) -> Ended {
     }
 }
 
+// Returns how a transfer of this text with this budget ends.
 fn list(s: Setup, text: &[u8], budget: usize) -> Ended {
     let kind = s.kind;
     judged(exchanges(begin(kind, budget), s, text), text)
 }
 
-// Returns how a transfer ends of a text of so many bytes, in fragments of a fixed length (0: mixed), over a line with this noise.
+// Returns how a transfer ends of a text of so many bytes.
+// The text comes in fragments of a fixed length (0: mixed), over a line with this noise.
 pub(crate) fn whole(
     kind: TextKind,
     length: usize,

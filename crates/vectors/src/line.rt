@@ -1,42 +1,55 @@
-// A line of the input: a word, then pairs of hexadecimal digits, with "=" in front of the message's bytes and ":" in front of an answer.
+// A line of the input: a word, then pairs of hexadecimal digits.
+// A "=" stands in front of the message's bytes, and a ":" in front of an answer.
 use vector_checks::fields;
 
-// The words that are no message's name: a request and a reply of which only the reading is judged, a setting of source 001, and no word at all.
+// The word of a request of which only the reading is judged.
 pub(crate) const REQUEST: u8 = 0x51;
 
+// The word of a reply of which only the reading is judged.
 pub(crate) const REPLY: u8 = 0x6E;
 
+// The word of a setting of source 001.
 pub(crate) const SETTING: u8 = 0x37;
 
+// No word that is known.
 pub(crate) const UNKNOWN: u8 = 0xFF;
 
 // The width of a word's column in the list of words.
 const WIDTH: usize = 14;
 
+// How many words there are.
 const WORDS: usize = 15;
 
 // No digit, or none yet.
 const NO_DIGIT: u8 = 16;
 
-// How far a line has been read.
+// How far a line has been read: in front of the "=".
 pub(crate) const FIELDS: u8 = 0;
 
+// Behind the "=".
 pub(crate) const BYTES: u8 = 1;
 
+// Behind the ":", or at the end of the line.
 pub(crate) const ANSWER: u8 = 2;
 
+// The line is not in this form.
 pub(crate) const MALFORMED: u8 = 3;
 
-// The pairs so far: how many, how many of them stand in front of the "=" and of the ":", and the first digit of a pair that is not whole yet.
+// What has been read of a line.
 pub(crate) struct Row {
+    // How far it has been read.
     pub(crate) stage: u8,
+    // How many pairs stand in front of the "=".
     pub(crate) fields: usize,
+    // How many pairs stand in front of the ":" or the end.
     pub(crate) bytes: usize,
+    // How many pairs there are.
     pub(crate) count: usize,
+    // The first digit of a pair that is not whole yet.
     digit: u8,
 }
 
-// The command number of a message's name, or one of the numbers above.
+// Returns the command number of a message's name, or one of the numbers above.
 pub(crate) fn command(word: &[u8]) -> u8 {
     let words =
         b"get           set           timing        save          text          table-read    table-write   value         timing-reply  text-fragment table-fragmentnull          request       reply         setting       ";
@@ -55,6 +68,7 @@ pub(crate) fn command(word: &[u8]) -> u8 {
     UNKNOWN
 }
 
+// Returns the value of a hexadecimal digit, or 16 where the byte is none.
 fn digit(b: u8) -> u8 {
     match b {
         b'0'..=b'9' => b - b'0',
@@ -63,7 +77,8 @@ fn digit(b: u8) -> u8 {
     }
 }
 
-// What may stand between pairs: spaces, one "=", behind it one ":", and the end of the line.
+// Returns the row after a byte that may stand between pairs.
+// These are spaces, one "=", behind it one ":", and the end of the line.
 fn mark(mut row: Row, b: u8) -> Row {
     let count = row.count;
     if row.digit == NO_DIGIT {
@@ -88,7 +103,7 @@ fn mark(mut row: Row, b: u8) -> Row {
     row
 }
 
-// One more byte of the line. A pair of digits goes into the buffer.
+// Returns the row after one more byte of the line. A pair of digits goes into the buffer.
 fn step(mut row: Row, b: u8, octets: &mut [u8]) -> Row {
     let high = row.digit;
     let at = row.count;
@@ -110,7 +125,7 @@ fn step(mut row: Row, b: u8, octets: &mut [u8]) -> Row {
     row
 }
 
-// The rest of a line, its pairs as bytes in the buffer.
+// Returns the row of the rest of a line, its pairs as bytes in the buffer.
 pub(crate) fn pairs(s: &[u8], octets: &mut [u8]) -> Row {
     let mut row = Row {
         stage: FIELDS,

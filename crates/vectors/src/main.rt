@@ -1,4 +1,5 @@
-// Runs the vectors of standard input, then document 01's rules for single fields and its table of messages whole, and writes one line a group.
+// Runs the vectors of standard input, then document 01's rules for single fields and its table of messages whole.
+// Writes one line a group.
 // The form of the input stands at its head, in the file stdin.
 mod line;
 mod setting;
@@ -20,16 +21,23 @@ const INPUT_ROOM: usize = 16384;
 // The most pairs of digits on a line.
 const LINE_ROOM: usize = 96;
 
-// How far the input has been run: whether a group has begun and whether a line was malformed; where the group's name starts and ends in the input;
-// the group's tally, all groups before it, and beside them the outputs of 37 and 38 bytes and the damaged variants of all vectors.
+// How far the input has been run.
 struct Progress {
+    // Whether a group has begun.
     begun: bool,
+    // Whether a line was malformed.
     stopped: bool,
+    // Where the group's name starts in the input.
     name: usize,
+    // Where the group's name ends in the input.
     name_end: usize,
+    // The tally of the group.
     group: Tally,
+    // The tally of all groups before it.
     total: Tally,
+    // The tally of the outputs of 37 and 38 bytes, of all vectors.
     room: Tally,
+    // The tally of the damaged variants, of all vectors.
     damaged: Tally,
 }
 
@@ -68,6 +76,7 @@ fn begin(mut p: Progress, s: &[u8], name: usize, name_end: usize) -> Progress {
     p
 }
 
+// Writes whether all vectors hold, or how many fail.
 fn verdict(t: Tally) {
     if t.0 == t.1 {
         say(STDOUT_FILENO, b"all ", t.1);
@@ -79,7 +88,7 @@ fn verdict(t: Tally) {
     io::write_all(STDOUT_FILENO, b" vectors fail\n");
 }
 
-// What cannot be run counts as one vector that fails, and ends the run.
+// Returns the progress with one vector that fails, for what cannot be run. It ends the run.
 fn stop(mut p: Progress) -> Progress {
     let group = p.group.count(false);
     p.group = group;
@@ -87,7 +96,7 @@ fn stop(mut p: Progress) -> Progress {
     p
 }
 
-// A message: its bytes and fields, the room of its output, and its damaged variants.
+// Returns the progress after a message: its bytes and fields, the room of its output, and its damaged variants.
 fn run_fields(mut p: Progress, f: Fields, data: &[u8], s: &[u8], answer: u8) -> Progress {
     let to_host = fields::layout(f.0).1;
     let group = p.group.count(vector::holds(f, data, s, answer));
@@ -99,7 +108,8 @@ fn run_fields(mut p: Progress, f: Fields, data: &[u8], s: &[u8], answer: u8) -> 
     p
 }
 
-// The same from the bytes of the fields; they must be as many as the message has.
+// Returns the progress after a message that is given by the bytes of its fields.
+// They must be as many as the message has.
 fn run_message(p: Progress, command: u8, f: &[u8], s: &[u8], answer: u8) -> Progress {
     let shape = fields::layout(command);
     let words = shape.2 as usize;
@@ -115,7 +125,7 @@ fn run_message(p: Progress, command: u8, f: &[u8], s: &[u8], answer: u8) -> Prog
     run_fields(p, gathered, fields::part(f, data, f.len()), s, answer)
 }
 
-// Adds vectors to the group. None at all is a malformed line.
+// Returns the progress with these vectors added to the group. None at all is a malformed line.
 fn add(mut p: Progress, t: Tally) -> Progress {
     if t.1 == 0 {
         return stop(p);
@@ -125,6 +135,7 @@ fn add(mut p: Progress, t: Tally) -> Progress {
     p
 }
 
+// Returns the progress after one vector: its fields, the message's bytes, and the answer behind them.
 // An answer number is written in decimal.
 fn judge(p: Progress, command: u8, f: &[u8], s: &[u8], behind: &[u8]) -> Progress {
     if behind.len() > 1 || (command == line::SETTING && behind.len() != 0) {
@@ -140,6 +151,7 @@ fn judge(p: Progress, command: u8, f: &[u8], s: &[u8], behind: &[u8]) -> Progres
     }
 }
 
+// Returns the progress after a line whose pairs have been read.
 fn run_pairs(p: Progress, command: u8, row: line::Row, octets: &[u8]) -> Progress {
     if row.stage == line::MALFORMED || command == line::UNKNOWN {
         return stop(p);
@@ -149,6 +161,7 @@ fn run_pairs(p: Progress, command: u8, row: line::Row, octets: &[u8]) -> Progres
     judge(p, command, f, s, fields::part(octets, row.bytes, row.count))
 }
 
+// Returns the progress after a line that holds a vector.
 fn run_vector(p: Progress, s: &[u8]) -> Progress {
     let mut space = [0u8; LINE_ROOM];
     let octets: &mut [u8] = &mut space;
@@ -158,7 +171,8 @@ fn run_vector(p: Progress, s: &[u8]) -> Progress {
     run_pairs(p, command, row, octets)
 }
 
-// A line that is not empty: a group's name in brackets, a vector of a group, or a comment.
+// Returns the progress after a line that is not empty.
+// It is a group's name in brackets, a vector of a group, or a comment.
 // It stands from `at` to `end` in the input s.
 fn run_line(p: Progress, s: &[u8], at: usize, end: usize) -> Progress {
     let text = fields::part(s, at, end);
@@ -195,7 +209,8 @@ fn name_line(number: u32, what: &[u8], text: &[u8]) {
     io::write_all(STDERR_FILENO, b"\n");
 }
 
-// Names a line that is malformed, or whose vector does not hold: where as many had failed before it, it holds.
+// Names a line that is malformed, or whose vector does not hold.
+// A line holds where as many vectors had failed before it.
 fn report(before: u32, p: Progress, number: u32, text: &[u8]) {
     if failed(p) == before {
         return;
@@ -207,6 +222,7 @@ fn report(before: u32, p: Progress, number: u32, text: &[u8]) {
     name_line(number, b" does not hold: ", text);
 }
 
+// Returns the progress after all lines, or after the first that is malformed.
 fn run_lines(mut p: Progress, s: &[u8]) -> Progress {
     let mut at = 0;
     let mut number = 0u32;
@@ -230,7 +246,7 @@ fn run_lines(mut p: Progress, s: &[u8]) -> Progress {
     p
 }
 
-// The input's groups. An input that is too long, or has no vectors, is refused.
+// Returns the progress after the input's groups. An input that is too long, or has no vectors, is refused.
 fn run_input(s: &[u8]) -> Progress {
     let none = Tally(0, 0);
     let first = Progress {
@@ -258,13 +274,15 @@ fn run_input(s: &[u8]) -> Progress {
     last
 }
 
-// What was counted beside the vectors, as groups of their own.
+// Writes what was counted beside the vectors, as groups of their own.
+// Returns the tally with them.
 fn run_beside(total: Tally, p: Progress) -> Tally {
     let with_room = tell(total, b"room of an output", p.room);
     tell(with_room, b"damaged variants", p.damaged)
 }
 
-// Document 01's rules that are run over every value.
+// Writes document 01's rules that are run over every value, a group each.
+// Returns the tally with them.
 fn run_rules(total: Tally) -> Tally {
     let a = tell(total, b"document 01, fields", values::all());
     let b = tell(a, b"document 01, table of requests", table::all(false));

@@ -1,11 +1,12 @@
-// Source 001's tables of settings commands, printed without their checksum. The source's own rule for it: all bytes and 37, by exclusive or, are 59.
+// Source 001's tables of settings commands, printed without their checksum.
+// The source's own rule for it: all bytes and 37, by exclusive-or, are 59.
 use vector_checks::fields;
 use vector_checks::fields::Fields;
 use vector_checks::number;
 use vector_checks::tally::Tally;
 use vector_checks::vector;
 
-// Whether the Set of a code and a value is the command with a checksum by the source's rule.
+// Returns whether the Set of a code and a value is the command with a checksum by the source's rule.
 fn holds(code: u8, high: u8, low: u8) -> bool {
     let sum = 0x59 ^ 0x37 ^ 0x51 ^ 0x84 ^ 0x03 ^ code ^ high ^ low;
     let s = [0x51, 0x84, 0x03, code, high, low, sum];
@@ -13,7 +14,7 @@ fn holds(code: u8, high: u8, low: u8) -> bool {
     vector::holds(f, b"", &s, number::DONE)
 }
 
-// The value of these two bytes, and so many more that go on by these steps.
+// Returns the tally of the value of these two bytes, and of so many more that go on by these steps.
 fn range(code: u8, high: u8, low: u8, high_step: u8, low_step: u8, more: u8) -> Tally {
     let mut sum = Tally(0, 0);
     let mut h = high;
@@ -27,7 +28,7 @@ fn range(code: u8, high: u8, low: u8, high_step: u8, low_step: u8, more: u8) -> 
     sum
 }
 
-// The range of a row that has its steps and its number behind code and value.
+// Returns the tally of a row that has its steps and its number behind code and value.
 fn ranged(code: u8, high: u8, low: u8, f: &[u8]) -> Tally {
     range(
         code,
@@ -39,7 +40,9 @@ fn ranged(code: u8, high: u8, low: u8, f: &[u8]) -> Tally {
     )
 }
 
-// A row: code and value, as they are printed; for a range also the step, and how many more there are. None where it has other fields.
+// Returns the tally of a row: code and value, as they are printed.
+// For a range they are followed by the step, and by how many more there are.
+// A row with other fields counts nothing.
 pub(crate) fn row(f: &[u8], s: &[u8]) -> Tally {
     if f.len() < 3 {
         return Tally(0, 0);

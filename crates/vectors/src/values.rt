@@ -4,7 +4,7 @@ use vector_checks::number;
 use vector_checks::tally::Tally;
 use vector_checks::vector;
 
-// A Timing reply with this status: its bits 5 to 2 must be 0.
+// Returns whether a Timing reply with this status is judged right: its bits 5 to 2 must be 0.
 fn status_holds(status: u8) -> bool {
     let f = Fields(0x4E, status, 0, 0, 0x341C, 0x1770);
     let sum = 0x39 ^ status;
@@ -15,7 +15,7 @@ fn status_holds(status: u8) -> bool {
     vector::holds(f, b"", &s, number::WRONG_FIELD)
 }
 
-// A Value reply with this result and type: each must be 0 or 1.
+// Returns whether a Value with this result and type is judged right: each must be 0 or 1.
 fn value_holds(result: u8, kind: u8) -> bool {
     let f = Fields(0x02, result, 0x10, kind, 0x1234, 0x5678);
     let sum = 0xAC ^ result ^ kind;
@@ -38,7 +38,8 @@ fn value_holds(result: u8, kind: u8) -> bool {
     vector::holds(f, b"", &s, number::WRONG_FIELD)
 }
 
-// Replies of no body with this last byte. The null message alone has the right checksum; the plain form needs 4E in a body.
+// Returns whether replies of no body with this last byte are judged right.
+// The null message alone has the right checksum; the plain form of length byte needs 4E in a body.
 fn empty_holds(last: u8) -> bool {
     let null = [0x6E, 0x80, last];
     let plain = [0x6E, 0x00, last];
@@ -51,7 +52,8 @@ fn empty_holds(last: u8) -> bool {
     vector::answers(true, &null, number::WRONG_CHECKSUM)
 }
 
-// Every last byte of a reply of no body, every status, every result with either type, every type with either result.
+// Returns the tally of every last byte of a reply of no body, every status,
+// every result with either type, and every type with either result.
 pub(crate) fn all() -> Tally {
     let mut sum = Tally(0, 0);
     for field in 0..=255u8 {

@@ -28,7 +28,7 @@ pub struct Loaded {
     pub settings: Settings,
     // The answer number.
     pub answer: u8,
-    // The place that document 01 gives with a refusal; after answer 0 the end of the profile.
+    // The position that document 01 gives with a refusal; after answer 0 the end of the profile.
     pub position: Position,
 }
 
@@ -36,6 +36,6 @@ pub struct Loaded {
 pub struct Judged {
     // The answer number.
     pub answer: u8,
-    // The place, as in `Loaded`.
+    // The position, as in `Loaded`.
     pub position: Position,
 }

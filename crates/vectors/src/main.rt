@@ -65,6 +65,7 @@ fn close(p: Progress, s: &[u8]) -> Tally {
 }
 
 // Ends the group before, and begins one whose name stands here in the input.
+// Returns the progress with it.
 fn begin(mut p: Progress, s: &[u8], name: usize, name_end: usize) -> Progress {
     let total = close(p, s);
     let none = Tally(0, 0);

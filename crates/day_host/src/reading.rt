@@ -1,6 +1,7 @@
 // 06:00 and 12:00: a host reads a text of a display over the line, fragment by fragment.
 // It asks again where the line spoils an exchange.
 use crate::requests;
+use buffers::front;
 use day_line::Fate;
 use day_line::Frame;
 use day_line::Line;
@@ -11,7 +12,6 @@ use day_report::exchanges;
 use message_rules::TextKind;
 use message_rules::answer;
 use message_rules::limits::LONGEST_TEXT;
-use show::part::front;
 use transfer_rules::State;
 use transfer_rules::Transfer;
 

@@ -1,10 +1,10 @@
 // What is told of a settings profile: its records, and what came of loading it.
+use buffers::behind;
+use buffers::front;
 use day_report::OUT;
 use day_report::line;
 use message_rules::answer;
 use profile_rules::RECORD_SIZE;
-use show::part::behind;
-use show::part::front;
 
 // Returns a 16-bit word, the low byte first.
 fn word(low: u8, high: u8) -> u64 {

@@ -1,12 +1,12 @@
 // 05:10: the tent writes the call list. Every third write arrives twice.
 use crate::requests;
 use crate::texts::LIST_SIZE;
+use buffers::behind;
+use buffers::front;
 use day_line::Frame;
 use day_report::messages;
 use display_rules::limits::TABLE_ROOM;
 use message_rules::limits::MOST_WRITTEN;
-use show::part::behind;
-use show::part::front;
 
 // How many writes carry the list.
 const WRITES: usize = (LIST_SIZE + MOST_WRITTEN - 1) / MOST_WRITTEN;

@@ -1,10 +1,10 @@
 // What came of the exchanges of a transfer.
 use crate::OUT;
 use crate::line;
+use buffers::behind;
+use buffers::front;
 use day_line::Fate;
 use day_line::tally::Tally;
-use show::part::behind;
-use show::part::front;
 
 // The width of a fate's name, with the spaces behind it.
 const NAME: usize = 18;

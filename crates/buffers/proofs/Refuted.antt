@@ -1,4 +1,5 @@
--- Wrong rules, and that the theorems do not hold of them: bytes put one place too far, and what stood there moved up behind them; a part one byte too far.
+-- Wrong rules, and that the theorems do not hold of them: bytes put one place too far, bytes put in front of what stood
+-- there, a part one byte too far.
 use mathlib.Core.Path.{_≡_}
 use mathlib.Core.List.{List, [], _∷_, _++_}
 use Prim.Native.Nat.{ℕ, _+_}

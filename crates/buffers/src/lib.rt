@@ -1,4 +1,5 @@
-// Bytes and parts of slices, so that a caller has no length to prove: a byte that is not there is 0, and a part is cut at the end.
+// Bytes and parts of slices, so that a caller has no length to prove: a byte that is not there is 0, and a part is cut
+// at the end.
 ghost use mathlib.Core.Path.{_≡_};
 ghost use Prim.Native.Nat.{_<_};
 ghost use lib.ListN.{getD, take, drop};

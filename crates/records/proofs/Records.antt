@@ -12,7 +12,7 @@ use Rattle.checksum.specs.Bytes.{Bytes}
 use Rattle.checksum.proofs.Bytes.{bytes-at}
 use Rattle.records.specs.Numbers.{wordAt}
 use Rattle.records.specs.Records.{recordOf, beginsWith}
-use Rattle.records.specs.Statements.{Begins, BeginsExactly}
+use Rattle.records.specs.Statements.{Begins, BeginsExactly, WritesRecord}
 use Rattle.records.proofs.Numbers.{low-high, number-dropped, number-here}
 
 -- ---- what a record has
@@ -86,8 +86,11 @@ pub begins-exactly : BeginsExactly beginsWith
 begins-exactly = record { whole = begins-whole; every = begins-every }
 
 -- what is written begins with a record, whatever follows
+pub writes-record : WritesRecord recordOf
+writes-record k body rest = record { body = body; rest = rest; counted = refl; bytes = refl }
+
 pub begins : (k : ℕ) (body rest : List ℕ) → beginsWith (2 + length body) k (recordOf k body ++ rest) ≡ true
-begins k body rest = begins-every (2 + length body) k (recordOf k body ++ rest) (record { body = body; rest = rest; counted = refl; bytes = refl })
+begins k body rest = begins-every (2 + length body) k (recordOf k body ++ rest) (writes-record k body rest)
 
 -- ---- the answers of `stands`
 

@@ -1,5 +1,6 @@
--- Wrong rules, and that the theorems do not hold of them: the high byte first, a number read with its high byte first, a length that counts
--- itself, so that a record may be cut, and a kind that nothing looks at.
+-- Wrong rules, and that the theorems do not hold of them: the high byte first, a number read with its high byte first,
+-- a length that counts itself (so that a record may be cut), a kind that nothing looks at, a length that is written so
+-- that it counts the whole record.
 use mathlib.Core.Path.{_≡_, refl, ap}
 use mathlib.Core.Bool.{Bool, true, _&&_}
 use mathlib.Core.List.{List, [], _∷_, _++_}
@@ -10,7 +11,7 @@ use lib.Dec.{leb, eqb}
 use Rattle.checksum.specs.Bytes.{Bytes, none, more}
 use Rattle.records.specs.Numbers.{littleEndian, numberAt, wordAt}
 use Rattle.records.specs.Records.{beginsWith}
-use Rattle.records.specs.Statements.{BytesRule, NumberRule, LowFirst, NumberBack, BeginsRule, BeginsExactly}
+use Rattle.records.specs.Statements.{BytesRule, NumberRule, LowFirst, NumberBack, BeginsRule, BeginsExactly, WriteRule, WritesRecord}
 
 -- ---- numbers
 
@@ -60,3 +61,10 @@ any-kind-refuted h =
     (more (omega arith) (more (omega arith) (more (omega arith) (more (omega arith) (more (omega arith) (more (omega arith) (more (omega arith) none))))))) refl in
     let e : _≡_ {A = ℕ} 1 2 = ap (λ (s : List ℕ). getD s 2 0) (w .bytes) in
     omega arith
+
+-- the length that is written counts its own two bytes too
+abbrev countsAll : WriteRule
+countsAll kind body = littleEndian 2 (4 + length body) ++ (littleEndian 2 kind ++ body)
+
+pub counts-all-refuted : WritesRecord countsAll → ⊥
+counts-all-refuted h = let e : _≡_ {A = ℕ} 4 2 = ap (λ (s : List ℕ). getD s 0 0) (h 1 [] [] .bytes) in omega arith

@@ -10,6 +10,7 @@ use Rattle.records.specs.Numbers.{littleEndian, wordAt}
 abbrev pub recordOf : (kind : ℕ) → List ℕ → List ℕ
 recordOf kind body = littleEndian 2 (2 + length body) ++ (littleEndian 2 kind ++ body)
 
--- whether s begins with a record of this length and kind; if not, it is "cut, length or kind wrong". The kind is part of the length: none is below 2.
+-- whether s begins with a record of this length and kind; if not, it is "cut, length or kind wrong". The kind is part of
+-- the length: none is below 2.
 unfoldable pub beginsWith : (len kind : ℕ) → List ℕ → Bool
 beginsWith len kind s = leb 2 len && (leb (2 + len) (length s) && (eqb (wordAt s 0) len && eqb (wordAt s 2) kind))

@@ -1,5 +1,5 @@
--- What the definitions of Numbers.antt and Records.antt come to. A statement takes the rule as a parameter: proofs/ proves it of theirs, and refutes it of
--- wrong ones.
+-- What the definitions of Numbers.antt and Records.antt come to. A statement takes the rule as a parameter: proofs/
+-- proves it of theirs, and refutes it of wrong ones.
 use Prim.Native.Nat.{ℕ, suc, _+_, _*_, _/_, _%_, _≤_, _<_}
 use mathlib.Core.Path.{_≡_}
 use mathlib.Core.Bool.{Bool, true}
@@ -39,7 +39,7 @@ BytesBack bytes number = (k : ℕ) (s : List ℕ) (i : ℕ) → Bytes s → i + 
 abbrev pub BeginsRule : Type 0
 BeginsRule = (len kind : ℕ) → List ℕ → Bool
 
--- "length (2 bytes, little-endian, counting what follows it), kind (2 bytes, little-endian), body", and what follows the record
+-- "length (2 bytes, little-endian, counting what follows it), kind (2 bytes, little-endian), body", and what follows it
 pub record Begins (len kind : ℕ) (s : List ℕ) : Type 0 where
   pub body : List ℕ
   pub rest : List ℕ
@@ -50,3 +50,11 @@ pub record Begins (len kind : ℕ) (s : List ℕ) : Type 0 where
 pub record BeginsExactly (rule : BeginsRule) : Type 0 where
   pub whole : (len kind : ℕ) (s : List ℕ) → Bytes s → rule len kind s ≡ true → Begins len kind s
   pub every : (len kind : ℕ) (s : List ℕ) → Begins len kind s → rule len kind s ≡ true
+
+-- a rule that gives the bytes of a record
+abbrev pub WriteRule : Type 0
+WriteRule = (kind : ℕ) (body : List ℕ) → List ℕ
+
+-- what is written begins with a record of that kind and body, whatever follows
+abbrev pub WritesRecord : WriteRule → Type 0
+WritesRecord write = (kind : ℕ) (body rest : List ℕ) → Begins (2 + length body) kind (write kind body ++ rest)

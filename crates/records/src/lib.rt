@@ -1,5 +1,7 @@
-// Records: length, kind, body, and the little-endian numbers in them. No function asks anything of a position: bytes that are not there count as 0,
-// and no record stands where it would be cut.
+// Records: length, kind, body, and the little-endian numbers in them.
+//
+// No function asks anything of a position: bytes that are not there count as 0, and no record stands where it would be
+// cut.
 use buffers::octet;
 use buffers::wide16;
 use buffers::wide32;

@@ -15,10 +15,10 @@
 extern "C" {
 #endif
 
-/* The states of a transfer, by DDCCI_STATE. */
-#define DDCCI_RUNNING 0
-#define DDCCI_DONE 1
-#define DDCCI_EXHAUSTED 2
+/* The states of a transfer, by DDCCI_STATE. 0 is closed: a zeroed ddcci_transfer does not run. */
+#define DDCCI_EXHAUSTED 0
+#define DDCCI_RUNNING 1
+#define DDCCI_DONE 2
 #define DDCCI_OVERFLOWED 3
 
 /* The most data bytes of a Table write, and of a fragment. */
@@ -87,7 +87,7 @@ DDCCI_ASSERT_SIZE(ddcci_reply_read, 32);
 DDCCI_ASSERT_SIZE(ddcci_reading, 24);
 DDCCI_ASSERT_SIZE(ddcci_transfer, 16);
 
-/* The state and the text of a transfer. */
+/* The state and the text of a transfer. A refused begin of an unknown text has text 2, which names none. */
 #define DDCCI_STATE(transfer) ((transfer).phase % 4)
 #define DDCCI_TEXT(transfer) ((transfer).phase / 4)
 

@@ -1,6 +1,6 @@
 //! The C headers: programs are compiled with them by C89, C99, C17 and C++, linked with the static libraries and run.
 mod common;
-use common::{compiled_as, repository, text_of, written_by, C17, C89, C99, CPP};
+use common::{code_block, compiled_as, repository, text_of, written_by, C17, C89, C99, CPP};
 use ddcci::Refusal;
 use std::fs;
 use std::os::unix::fs::symlink;
@@ -10,11 +10,12 @@ use std::process::Command;
 const EXAMPLE_WRITES: &str = "\
 set brightness to 100: 51 84 03 10 00 64 CC
 answer 0: code 10 is 50 of 100
-cut by a byte: answer 4
-(vcp(10 14(05 08))): 5 nodes, the last is 08
-(a(b)(c)): refused 13 at 5
-the same fragment again: answer 10
-state 2 after 5 exchanges: (vcp(10 12))
+cut by a byte: answer 4, the length byte is wrong, or the slice does not agree with it
+(vcp(10 14(05 08))): 5 nodes vcp 10 14 05 08
+(): 0 nodes
+(a(b)(c)): refused 13 at 5, the capabilities string does not follow the grammar
+(vcp(10 12))
+in 5 exchanges
 ";
 
 const DISPLAY_WRITES: &str = "\
@@ -148,4 +149,64 @@ fn the_headers_are_c89_c17_and_cpp() {
     for standard in [C89, C17, CPP] {
         assert_eq!(written_by(&compiled_as(standard, &c_file("headers.c"), &[HOST, DISPLAY])), wanted);
     }
+}
+
+/// README's C loop, with another line for the one that begins the transfer.
+fn loop_of_readme(change: impl Fn(&str) -> String) -> String {
+    let mut lines = code_block("README.md", "c");
+    let begins = lines.iter_mut().find(|line| line.contains("ddcci_begin(DDCCI_CAPABILITIES")).expect("it begins");
+    *begins = change(begins);
+    lines.join("\n")
+}
+
+/// The loop ends for each of the 256 numbers of a text, and for a transfer of zeros.
+#[test]
+fn the_loop_of_readme_ends_for_every_text() {
+    let source = format!(
+        r#"
+#include <stdio.h>
+#include <stdlib.h>
+#include "ddcci.h"
+
+static unsigned exchanges;
+
+static size_t exchange(const uint8_t *request, size_t length, uint8_t *reply) {{
+    (void)request, (void)length, (void)reply;
+    if (++exchanges > 1000) exit(1);
+    return 0;
+}}
+
+static void text_of(uint8_t number) {{
+    exchanges = 0;
+    printf("%u: ", number);
+    {}
+    printf("  state %d after %u exchanges\n", DDCCI_STATE(t), exchanges);
+}}
+
+static void zeroed(void) {{
+    exchanges = 0;
+    {}
+    printf("  state %d after %u exchanges\n", DDCCI_STATE(t), exchanges);
+}}
+
+int main(void) {{
+    for (unsigned number = 0; number < 256; number++) text_of((uint8_t)number);
+    zeroed();
+    return 0;
+}}
+"#,
+        loop_of_readme(|line| line.replace("DDCCI_CAPABILITIES", "number")),
+        loop_of_readme(|_| "ddcci_transfer t = {0};".into()),
+    );
+    let file = Path::new(env!("CARGO_TARGET_TMPDIR")).join("every_text.c");
+    fs::write(&file, source).unwrap();
+    let (short, unknown) = ("the message is under 3 bytes", "the command or the text's number is not in the table");
+    let mut wanted = String::new();
+    for number in 0..256 {
+        let (meaning, exchanges) = if number < 2 { (short, 1000) } else { (unknown, 0) };
+        wanted.push_str(&format!("{number}: no text; the last answer: {meaning}\n"));
+        wanted.push_str(&format!("  state 0 after {exchanges} exchanges\n"));
+    }
+    wanted.push_str("no text; the last answer: done\n  state 0 after 0 exchanges\n");
+    assert_eq!(written_by(&compiled_as(C17, &file, &[HOST])), wanted);
 }

@@ -188,7 +188,7 @@ fn two_flips_of_one_bit_pass_the_checksum() {
     let flipped = [0x6E, 0x85, 0xE4, 0x00, 0x00, 0x30, 0x33, 0x5C];
     let mut buffer = [0; 8];
     assert_eq!(finished(&mut buffer, 9, &[&flipped, &end]), (Ok(&b"03"[..]), vec![0, 0]));
-    // Each single flipped bit is refused.
+    // Each single flipped bit of this reply is refused.
     for bit in 0..8 * sent.len() {
         let mut once = sent.to_vec();
         once[bit / 8] ^= 1 << (bit % 8);

@@ -103,3 +103,27 @@ pub fn read_alike(s: &[u8]) {
     assert_eq!(number(Request::read(s)), request(slow::read_request(s)), "request {s:02X?}");
     assert_eq!(number(Reply::read(s)), reply(slow::read_reply(s)), "reply {s:02X?}");
 }
+
+/// The code blocks of a Markdown file: the word behind the opening fence, and the lines.
+pub fn code_blocks(path: &str) -> Vec<(String, Vec<String>)> {
+    let mut blocks: Vec<(String, Vec<String>)> = vec![];
+    let mut inside = false;
+    for line in text_of(path).lines() {
+        if let Some(language) = line.strip_prefix("```") {
+            inside = !inside;
+            if inside {
+                blocks.push((language.to_string(), vec![]));
+            }
+        } else if inside {
+            blocks.last_mut().expect("a block is open").1.push(line.to_string());
+        }
+    }
+    blocks
+}
+
+/// The only code block of a language in a Markdown file.
+pub fn code_block(path: &str, language: &str) -> Vec<String> {
+    let mut found: Vec<_> = code_blocks(path).into_iter().filter(|(word, _)| word == language).collect();
+    assert_eq!(found.len(), 1, "{path} has one block of {language}");
+    found.remove(0).1
+}

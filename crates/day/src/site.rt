@@ -1,6 +1,10 @@
-// A display at the end of its line, and what a host sends it.
-use crate::line::Line;
+// A display at the end of its line.
 use buffers::front;
+use day_host::actions;
+use day_host::actions::Action;
+use day_host::texts;
+use day_line::Frame;
+use day_line::Line;
 use display_rules::Display;
 use display_rules::limits::TABLE_ROOM;
 use message_rules::limits::OUTPUT_ROOM;

@@ -32,10 +32,10 @@ pub fn message(a: Action) -> Frame {
 fn value_of(reply: Frame) -> u16 {
     let bytes = reply.bytes;
     match read_display_reply(&bytes) {
-        ReplyRead::Value(_, _, _, _, present) => present,
-        ReplyRead::Timing(_, _, _) => 0,
-        ReplyRead::TextFragment(_, _, _) => 0,
-        ReplyRead::TableFragment(_, _, _) => 0,
+        ReplyRead::Value { present, .. } => present,
+        ReplyRead::Timing { .. } => 0,
+        ReplyRead::TextFragment { .. } => 0,
+        ReplyRead::TableFragment { .. } => 0,
         ReplyRead::Refused(_) => 0,
     }
 }

@@ -3,8 +3,8 @@
 pub mod exchanges;
 pub mod messages;
 
-use show::part::behind;
-use show::part::front;
+use buffers::behind;
+use buffers::front;
 
 // Where the day is told.
 pub const OUT: i32 = libc::STDOUT_FILENO;

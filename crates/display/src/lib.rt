@@ -155,7 +155,7 @@ fn obey(
             offset: at,
             at: position,
             len: n,
-        } => { operation::write(d.table.len, table, code, at, message, position.0, n) }
+        } => { operation::write(d.table.len, table, code, at, message, position, n) }
         RequestRead::Refused(answer) => operation::refuse(answer, out),
     }
 }

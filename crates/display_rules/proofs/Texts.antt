@@ -1,4 +1,5 @@
--- The step follows the paper's sentences on Table write, and the numbers and replies of Text and Table read: the theorems of specs/Texts.antt.
+-- The step follows the paper's sentences on Table write, and the numbers and replies of Text and Table read: the
+-- theorems of specs/Texts.antt.
 use mathlib.Core.Path.{_≡_, refl, ap, _∙_}
 use mathlib.Core.Bool.{Bool, true, false, cond}
 use mathlib.Core.List.{List}

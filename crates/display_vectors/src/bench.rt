@@ -1,4 +1,7 @@
 // A display on a bench: it, the memory of its table, and what its last step gave.
+use buffers::behind;
+use buffers::front;
+use buffers::octet;
 use display_rules::Display;
 use display_texts::fragments::handed_back;
 use message_builder::Built;
@@ -58,24 +61,9 @@ pub(crate) struct Bench {
     pub(crate) good: bool,
 }
 
-// Returns the first n bytes of s, or all of it where it is shorter.
-pub(crate) fn front(s: &[u8], n: usize) -> &[u8] {
-    if n < s.len() { &s[0..n] } else { s }
-}
-
 // Returns the first n bytes of s to be written, or all of it where it is shorter.
 pub(crate) fn front_mut(s: &mut [u8], n: usize) -> &mut [u8] {
     if n < s.len() { &mut s[0..n] } else { s }
-}
-
-// Returns what stands behind the first n bytes.
-pub(crate) fn behind(s: &[u8], n: usize) -> &[u8] {
-    if n < s.len() { &s[n..] } else { &s[0..0] }
-}
-
-// Returns the byte at an index, or 0 past the end.
-pub(crate) fn octet(s: &[u8], at: usize) -> u8 {
-    if at < s.len() { s[at] } else { 0 }
 }
 
 // Returns the capabilities string of every display here: byte i of it is the low byte of i.

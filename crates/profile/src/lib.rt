@@ -29,7 +29,7 @@ ghost use Rattle.buffers.specs.Buffers.{put};
 ghost use Rattle.codes.specs.Codes.{member};
 ghost use Rattle.profile_rules.specs.Records.{valueRecord, recordSize};
 ghost use Rattle.profile_rules.specs.Profile.{codesFrom, recordsOf, writeProfile, recordAnswer, judgeProfile, loadProfile};
-ghost use Rattle.profile.specs.Parts.{keptWord, keptWords, judgedAt, storedRecords};
+ghost use Rattle.profile.specs.Parts.{profileWord, profileWords, judgedAt, storedRecords};
 
 // Returns the position n bytes behind another.
 fn after(at: Position, n: usize) -> Position

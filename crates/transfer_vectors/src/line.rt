@@ -11,11 +11,6 @@ pub(crate) struct Frame {
 // The bytes of output that a builder needs.
 pub(crate) const ROOM: usize = 38;
 
-// Returns the first n bytes, or all where there are fewer.
-pub(crate) fn front(s: &[u8], n: usize) -> &[u8] {
-    if n < s.len() { &s[0..n] } else { s }
-}
-
 // Returns a frame without bytes: nothing came.
 pub(crate) fn silence() -> Frame {
     Frame {

@@ -52,6 +52,7 @@ pub fn part(s: &[u8], start: usize, end: usize) -> &[u8]
     &s[start..end]
 }
 
+// Returns the 16-bit number of a high and a low byte.
 pub fn word(high: u8, low: u8) -> u16
     ensures { λ r. ⌜ r ≡ high * 256 + low ⌝ }
 {

@@ -29,7 +29,7 @@ use Rattle.ddcci.specs.Follow.{HeaderFields, HeaderNumbers, Closed, Refu
 pub header-fields : HeaderFields numbersOf
 header-fields =
     record {
-      size = λ t a. refl;
+      capacity = λ t a. refl;
       offset = λ t a. refl;
       budget = λ t a. refl;
       count = λ t a. refl;
@@ -63,7 +63,7 @@ state-back Table Exhausted = refl
 state-back Table Overflowed = refl
 
 back : (t : Transfer) (a : ℕ) → transferOf (t .kind) (numbersOf t a) ≡ t
-back t a = ap (λ (s : State). record { kind = t .kind; state = s; reached = t .reached; size = t .size; budget = t .budget; count = t .count }) (state-back (t .kind) (t .state))
+back t a = ap (λ (s : State). record { kind = t .kind; state = s; reached = t .reached; capacity = t .capacity; budget = t .budget; count = t .count }) (state-back (t .kind) (t .state))
 
 -- what is made of the numbers of a transfer, by their text
 by-its-text : {A : Type 0} (t : Transfer) (a : ℕ) (f : Transfer → A) (other : A) → byText (textOf (numbersOf t a .phase / 4)) (λ k. f (transferOf k (numbersOf t a))) other ≡ f t
@@ -153,21 +153,21 @@ pub refused-is-closed : RefusedIsClosed beginNumbers
 refused-is-closed kind size budget h = go (textOf kind) h
   where
     accepted : TextKind → Begun
-    accepted t = record { answer = 0; transfer = record { kind = t; state = rules.firstState budget; reached = record { 0 = 0 }; size = size; budget = budget; count = 0 } }
+    accepted t = record { answer = 0; transfer = record { kind = t; state = rules.firstState budget; reached = record { 0 = 0 }; capacity = size; budget = budget; count = 0 } }
 
     refused : TextKind → Begun
-    refused t = record { answer = 18; transfer = record { kind = t; state = Exhausted; reached = record { 0 = 0 }; size = 0; budget = 0; count = 0 } }
+    refused t = record { answer = 18; transfer = record { kind = t; state = Exhausted; reached = record { 0 = 0 }; capacity = 0; budget = 0; count = 0 } }
 
     begun-closed : (t : TextKind) (x : Bool) → let b = cond x (accepted t) (refused t) in (b .answer ≡ 0 → ⊥) → Closed (beganNumbers b)
     begun-closed t true h = absurd (h refl)
-    begun-closed t false h = record { state = exhausted-phase t Exhausted refl; size = refl; offset = refl; budget = refl; count = refl }
+    begun-closed t false h = record { state = exhausted-phase t Exhausted refl; capacity = refl; offset = refl; budget = refl; count = refl }
 
     go : (x : TextNumber) → let n = byText x (λ t. beganNumbers (rules.begin t size budget)) unknownText in (n .answer ≡ 0 → ⊥) → Closed n
     go (Known t) h = begun-closed t (leb budget mostBudget) h
-    go Unknown h = record { state = refl; size = refl; offset = refl; budget = refl; count = refl }
+    go Unknown h = record { state = refl; capacity = refl; offset = refl; budget = refl; count = refl }
 
 pub zeroes-closed : Closed zeroes
-zeroes-closed = record { state = refl; size = refl; offset = refl; budget = refl; count = refl }
+zeroes-closed = record { state = refl; capacity = refl; offset = refl; budget = refl; count = refl }
 
 module _ (n : TransferNumbers) (s : Closed n) where
   is-exhausted : stateOf (n .phase % 4) ≡ Exhausted
@@ -185,8 +185,8 @@ module _ (n : TransferNumbers) (s : Closed n) where
       let r = byText x (λ t. receivedNumbers (rules.receive (transferOf t n) buffer came)) (record { numbers = unmoved n; buffer = buffer }) in Closed (r .numbers) × (r .buffer ≡ buffer)
   stays-closed buffer came (Known t) =
       rw (not-open t)
-      (record { state = exhausted-phase t (stateOf (n .phase % 4)) is-exhausted; size = s .size; offset = s .offset; budget = s .budget; count = s .count }, refl)
-  stays-closed buffer came Unknown = (record { state = s .state; size = s .size; offset = s .offset; budget = s .budget; count = s .count }, refl)
+      (record { state = exhausted-phase t (stateOf (n .phase % 4)) is-exhausted; capacity = s .capacity; offset = s .offset; budget = s .budget; count = s .count }, refl)
+  stays-closed buffer came Unknown = (record { state = s .state; capacity = s .capacity; offset = s .offset; budget = s .budget; count = s .count }, refl)
 
 pub closed-stays : ClosedStays requestOutcome receiveNumbers
 closed-stays = record { asks = λ n s out. asks-nothing n s out (textOf (n .phase / 4)); stays = λ n s buffer came. stays-closed n s buffer came (textOf (n .phase / 4)) }

@@ -16,7 +16,7 @@ use Rattle.ddcci.specs.Follow.{HeaderFields, HeaderNumbers, RefusedIsClo
 
 -- refused with the number n, in this phase and with this room
 abbrev refused : ℕ → ℕ → ℕ → TransferNumbers
-refused n phase size = record { size = size; offset = 0; budget = 0; count = 0; phase = phase; answer = n }
+refused n phase size = record { capacity = size; offset = 0; budget = 0; count = 0; phase = phase; answer = n }
 
 -- an unknown text that reads as running: a program's loop on it never ends
 abbrev begin-runs : ℕ → ℕ → ℕ → TransferNumbers
@@ -30,7 +30,7 @@ abbrev begin-keeps-room : ℕ → ℕ → ℕ → TransferNumbers
 begin-keeps-room kind size budget = byText (textOf kind) (λ t. beganNumbers (rules.begin t size budget)) (refused 6 8 size)
 
 rejects-begin-keeps-room : RefusedIsClosed begin-keeps-room → ⊥
-rejects-begin-keeps-room h = let e : _≡_ {A = ℕ} 5 0 = h 2 5 9 (λ x. omega (arith, x)) .size in omega arith
+rejects-begin-keeps-room h = let e : _≡_ {A = ℕ} 5 0 = h 2 5 9 (λ x. omega (arith, x)) .capacity in omega arith
 
 -- ---- wrong numbers
 
@@ -60,9 +60,9 @@ rejects-one-text h = let e : _≡_ {A = ℕ} 0 4 = h .table .0 in omega arith
 
 -- the offset and the count exchanged
 abbrev crossed : Transfer → ℕ → TransferNumbers
-crossed t a = record { size = t .size; offset = t .count; budget = t .budget; count = t .reached .0; phase = phaseNumber (t .kind) (t .state); answer = a }
+crossed t a = record { capacity = t .capacity; offset = t .count; budget = t .budget; count = t .reached .0; phase = phaseNumber (t .kind) (t .state); answer = a }
 
 rejects-crossed : HeaderFields crossed → ⊥
 rejects-crossed h =
-    let e : _≡_ {A = ℕ} 1 3 = h .offset (record { kind = Capabilities; state = Running; reached = record { 0 = 3 }; size = 5; budget = 9; count = 1 }) 0 in
+    let e : _≡_ {A = ℕ} 1 3 = h .offset (record { kind = Capabilities; state = Running; reached = record { 0 = 3 }; capacity = 5; budget = 9; count = 1 }) 0 in
     omega arith

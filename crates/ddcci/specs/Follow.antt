@@ -22,7 +22,7 @@ use Rattle.ddcci.specs.Transfers.{phaseNumber, textNumber, textOf, byTex
 
 -- each field of a ddcci_transfer is the number of the transfer that it is named for
 pub record HeaderFields (numbers : Transfer → (answer : ℕ) → TransferNumbers) : Type 0 where
-  pub size : (t : Transfer) (answer : ℕ) → (numbers t answer) .size ≡ t .size
+  pub capacity : (t : Transfer) (answer : ℕ) → (numbers t answer) .capacity ≡ t .capacity
   pub offset : (t : Transfer) (answer : ℕ) → (numbers t answer) .offset ≡ t .reached .0
   pub budget : (t : Transfer) (answer : ℕ) → (numbers t answer) .budget ≡ t .budget
   pub count : (t : Transfer) (answer : ℕ) → (numbers t answer) .count ≡ t .count
@@ -39,7 +39,7 @@ pub record HeaderNumbers (phase : TextKind → State → ℕ) : Type 0 where
 -- the numbers of such a run (exhausted, in our words), of whatever text or none: it is closed, and never to be opened
 pub record Closed (n : TransferNumbers) : Type 0 where
   pub state : n .phase % 4 ≡ 0
-  pub size : n .size ≡ 0
+  pub capacity : n .capacity ≡ 0
   pub offset : n .offset ≡ 0
   pub budget : n .budget ≡ 0
   pub count : n .count ≡ 0
@@ -50,7 +50,7 @@ RefusedIsClosed begin = (kind size budget : ℕ) → ((begin kind size budget) .
 
 -- a zeroed transfer is closed too (`zeroes-closed`)
 abbrev pub zeroes : TransferNumbers
-zeroes = record { size = 0; offset = 0; budget = 0; count = 0; phase = 0; answer = 0 }
+zeroes = record { capacity = 0; offset = 0; budget = 0; count = 0; phase = 0; answer = 0 }
 
 -- of any two calls: such a transfer asks for nothing and stays so whatever comes, and no byte that is lent changes
 pub record ClosedStays (request : TransferNumbers → List ℕ → RequestOutcome) (receive : TransferNumbers → List ℕ → List ℕ → Received) : Type 0 where

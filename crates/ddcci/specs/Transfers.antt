@@ -55,7 +55,7 @@ byText Unknown f other = other
 
 abbrev pub numbersOf : Transfer → (answer : ℕ) → TransferNumbers
 numbersOf t answer = record {
-  size = t .size;
+  capacity = t .capacity;
   offset = t .reached .0;
   budget = t .budget;
   count = t .count;
@@ -64,7 +64,7 @@ numbersOf t answer = record {
 }
 
 abbrev pub transferOf : TextKind → TransferNumbers → Transfer
-transferOf k n = record { kind = k; state = stateOf (n .phase % 4); reached = record { 0 = n .offset }; size = n .size; budget = n .budget; count = n .count }
+transferOf k n = record { kind = k; state = stateOf (n .phase % 4); reached = record { 0 = n .offset }; capacity = n .capacity; budget = n .budget; count = n .count }
 
 -- ---- the calls
 
@@ -74,7 +74,7 @@ beganNumbers b = numbersOf (b .transfer) (b .answer)
 -- the transfer of an unknown text, whose number is refused as an unknown command is, 6. "A refused start gives .. a spent run of room 0":
 -- phase 8 is 4 times 2, which names no text, and state 0, which is exhausted
 abbrev pub unknownText : TransferNumbers
-unknownText = record { size = 0; offset = 0; budget = 0; count = 0; phase = 8; answer = unknownCommand }
+unknownText = record { capacity = 0; offset = 0; budget = 0; count = 0; phase = 8; answer = unknownCommand }
 
 abbrev pub beginNumbers : (kind size budget : ℕ) → TransferNumbers
 beginNumbers k size budget = byText (textOf k) (λ t. beganNumbers (rules.begin t size budget)) unknownText
@@ -98,7 +98,7 @@ receivedNumbers x = record { numbers = numbersOf (x .transfer) (x .answer); buff
 
 -- the same transfer, refused
 abbrev pub unmoved : TransferNumbers → TransferNumbers
-unmoved n = record { size = n .size; offset = n .offset; budget = n .budget; count = n .count; phase = n .phase; answer = unknownCommand }
+unmoved n = record { capacity = n .capacity; offset = n .offset; budget = n .budget; count = n .count; phase = n .phase; answer = unknownCommand }
 
 abbrev pub receiveNumbers : TransferNumbers → (buffer came : List ℕ) → Received
 receiveNumbers n buffer came =

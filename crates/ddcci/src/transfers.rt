@@ -17,7 +17,7 @@ use transfer_rules::Transfer;
 #[repr(C)]
 pub struct TransferNumbers {
     // The length of the buffer that it was begun with.
-    pub size: usize,
+    pub capacity: usize,
     // The offset reached.
     pub offset: u16,
     // The most exchanges that it counts.
@@ -106,7 +106,7 @@ fn transfer_of(kind: TextKind, n: TransferNumbers) -> Transfer
         kind: kind,
         state: state,
         reached: TextOffset(n.offset),
-        size: n.size,
+        capacity: n.capacity,
         budget: n.budget,
         count: n.count,
     }
@@ -119,7 +119,7 @@ fn numbers_of(t: Transfer, answer: u8) -> TransferNumbers
     let kind = t.kind;
     let state = t.state;
     TransferNumbers {
-        size: t.size,
+        capacity: t.capacity,
         offset: t.reached.0,
         budget: t.budget,
         count: t.count,
@@ -140,7 +140,7 @@ pub extern "C" fn ddcci_begin(kind: u8, buffer: &[u8], budget: usize) -> Transfe
             numbers_of(begun.transfer, begun.answer)
         }
         TextNumber::Unknown => TransferNumbers {
-            size: 0,
+            capacity: 0,
             offset: 0,
             budget: 0,
             count: 0,

@@ -57,7 +57,7 @@ module _ (t : Transfer) (buffer d : List ℕ) (t′ : Transfer) where
   pub accepts-none : room t < t .reached .0 + length d → t′ ≡ counted t Overflowed (t .reached .0) → Receives (accept t buffer d) 11 t′ buffer
   accepts-none h e = rw e (receives (accept t buffer d) (rw (lt-leb (t .reached .0 + length d) (room t) h)))
 
-  pub accepts-all : (s : State) (at : ℕ) (ys : List ℕ) → at ≡ t .reached .0 → length buffer ≡ t .size → at + length d ≤ room t → s ≡ stateAfter (length d) →
+  pub accepts-all : (s : State) (at : ℕ) (ys : List ℕ) → at ≡ t .reached .0 → length buffer ≡ t .capacity → at + length d ≤ room t → s ≡ stateAfter (length d) →
       t′ ≡ counted t s (at + length d) → ys ≡ take (length d) d ++ drop (length d) (midOf at (at + length d - at) buffer) →
       Receives (accept t buffer d) 0 t′ (putMid at (at + length d - at) buffer ys)
   accepts-all s at ys a z h f e g =
@@ -116,12 +116,12 @@ module _ (t : Transfer) (buffer s : List ℕ) where
   pub receives-closed : isOpen t ≡ false → Receives (receive t buffer s) 16 t buffer
   receives-closed h = receives (receive t buffer s) (rw h)
 
-  pub receives-size : isOpen t ≡ true → (length buffer ≡ t .size → ⊥) → Receives (receive t buffer s) 1 t buffer
-  receives-size h n = receives (receive t buffer s) (rw (h, ne-eqb (length buffer) (t .size) n))
+  pub receives-size : isOpen t ≡ true → (length buffer ≡ t .capacity → ⊥) → Receives (receive t buffer s) 1 t buffer
+  receives-size h n = receives (receive t buffer s) (rw (h, ne-eqb (length buffer) (t .capacity) n))
 
-  pub receives-judged : {answer : ℕ} {t′ : Transfer} {buffer′ : List ℕ} → isOpen t ≡ true → length buffer ≡ t .size →
+  pub receives-judged : {answer : ℕ} {t′ : Transfer} {buffer′ : List ℕ} → isOpen t ≡ true → length buffer ≡ t .capacity →
       Receives (judge t buffer (fragmentOf (t .kind) (readReply s))) answer t′ buffer′ → Receives (receive t buffer s) answer t′ buffer′
-  receives-judged h e r = rw (h, eq-eqb (length buffer) (t .size) e) r
+  receives-judged h e r = rw (h, eq-eqb (length buffer) (t .capacity) e) r
 
 -- ---- request
 module _ (t : Transfer) (output : List ℕ) where

@@ -42,7 +42,7 @@ pub fn begin(kind: TextKind, buffer: &[u8], budget: usize) -> Begun
             kind,
             state: State::Exhausted,
             reached: TextOffset(0),
-            size: 0,
+            capacity: 0,
             budget: 0,
             count: 0,
         };
@@ -56,7 +56,7 @@ pub fn begin(kind: TextKind, buffer: &[u8], budget: usize) -> Begun
         kind,
         state,
         reached: TextOffset(0),
-        size: buffer.len(),
+        capacity: buffer.len(),
         budget: budget as u16,
         count: 0,
     };
@@ -101,7 +101,7 @@ pub fn request(transfer: Transfer, output: &mut [u8]) -> Requested
 // Returns 0 where it is the fragment wanted and has room, 11 where it has none.
 // Another fragment or another kind of reply is 10; what cannot be read gives the reader's answer.
 fn judge(transfer: Transfer, buffer: &mut [u8], reply: &[u8]) -> Received
-    requires { ⌜ (transfer .count < transfer .budget) × (length (now buffer) ≡ transfer .size) ⌝ }
+    requires { ⌜ (transfer .count < transfer .budget) × (length (now buffer) ≡ transfer .capacity) ⌝ }
     ensures { λ r. ⌜ Receives (rules.judge transfer (now (buffer .entry)) (fragmentOf (transfer .kind) (readReply (now (reply .entry))))) (r .answer) (r .transfer) (now (buffer .exit)) ⌝ }
 {
     let kind = transfer.kind;
@@ -126,7 +126,7 @@ pub fn receive(transfer: Transfer, buffer: &mut [u8], reply: &[u8]) -> Received
     ensures { λ r. ⌜ Receives (rules.receive transfer (now (buffer .entry)) (now (reply .entry))) (r .answer) (r .transfer) (now (buffer .exit)) ⌝ }
 {
     if steps::is_open(transfer) {
-        if buffer.len() == transfer.size {
+        if buffer.len() == transfer.capacity {
             return judge(transfer, buffer, reply);
         }
         return Received {

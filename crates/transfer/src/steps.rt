@@ -56,7 +56,7 @@ fn counted(transfer: Transfer, state: State, reached: TextOffset) -> Transfer
         kind,
         state: next,
         reached,
-        size: transfer.size,
+        capacity: transfer.capacity,
         budget: transfer.budget,
         count,
     }
@@ -108,13 +108,13 @@ fn wide(offset: TextOffset) -> usize
 // Returns 0 and the transfer behind them.
 // Data past the room are 11: the transfer closes as overflowed, and nothing is put.
 pub(crate) fn accept(transfer: Transfer, buffer: &mut [u8], fragment: &[u8]) -> Received
-    requires { ⌜ (transfer .count < transfer .budget) × (length (now buffer) ≡ transfer .size) ⌝ }
+    requires { ⌜ (transfer .count < transfer .budget) × (length (now buffer) ≡ transfer .capacity) ⌝ }
     ensures { λ r. ⌜ Receives (rules.accept transfer (now (buffer .entry)) (now (fragment .entry))) (r .answer) (r .transfer) (now (buffer .exit)) ⌝ }
 {
     let reached = transfer.reached;
     let at = wide(reached);
     let end = at + fragment.len();
-    if room(transfer.size) < end {
+    if room(transfer.capacity) < end {
         let closed = counted(transfer, State::Overflowed, reached);
         return Received {
             answer: answer::TEXT_TOO_LONG,

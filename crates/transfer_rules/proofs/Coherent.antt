@@ -60,9 +60,9 @@ begin-coherent k size budget =
 receive-coherent : (t : Transfer) (buffer came : List ℕ) → Coherent t → Coherent ((receive t buffer came) .transfer)
 receive-coherent t buffer came c = go (isOpen t) refl
   where
-    go : (b : Bool) → isOpen t ≡ b → Coherent ((cond b (cond (eqb (length buffer) (t .size)) (judge t buffer (fragmentOf (t .kind) (readReply came))) (unchanged t buffer 1)) (unchanged t buffer 16)) .transfer)
+    go : (b : Bool) → isOpen t ≡ b → Coherent ((cond b (cond (eqb (length buffer) (t .capacity)) (judge t buffer (fragmentOf (t .kind) (readReply came))) (unchanged t buffer 1)) (unchanged t buffer 16)) .transfer)
     go false e = c
-    go true e = either (λ (o : ReceiveOutcome). Coherent (o .transfer)) (eqb (length buffer) (t .size)) _ _ (judge-coherent t buffer (open-runs t e .1) (fragmentOf (t .kind) (readReply came))) c
+    go true e = either (λ (o : ReceiveOutcome). Coherent (o .transfer)) (eqb (length buffer) (t .capacity)) _ _ (judge-coherent t buffer (open-runs t e .1) (fragmentOf (t .kind) (readReply came))) c
 
 pub keeps-coherent : KeepsCoherent
 keeps-coherent = record { begun = begin-coherent; received = receive-coherent }

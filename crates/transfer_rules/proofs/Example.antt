@@ -106,7 +106,7 @@ exchanges = silence ∷ first ∷ lost ∷ repeated ∷ damaged ∷ again ∷ fi
 
 ended-as : afterAll rules (start rules Capabilities buffer 9 cursor) exchanges
     ≡ record {
-      transfer = record { kind = Capabilities; state = Done; reached = record { 0 = 3 }; size = 5; budget = 9; count = 7 };
+      transfer = record { kind = Capabilities; state = Done; reached = record { 0 = 3 }; capacity = 5; budget = 9; count = 7 };
       buffer = 0x28 ∷ 0x61 ∷ 0x29 ∷ 4 ∷ 5 ∷ [];
       cursor = record { offset = 3; size = 0 };
       accepted = text;
@@ -193,7 +193,7 @@ table-course =
     (answered {w = u₁} {e = whole} (record { bytes = all-bytes _ refl; lawful = (refl, record { moves = (refl, omega arith); replies = refl }) }) refl ([], refl)
     (answered {w = u₂} {e = table-final} (record { bytes = all-bytes _ refl; lawful = (refl, record { moves = (refl, omega arith); replies = refl }) }) refl ([], refl) ended))
 
-table-ends : afterAll rules u₀ (foreign ∷ whole ∷ table-final ∷ []) .transfer ≡ record { kind = Table; state = Done; reached = record { 0 = 3 }; size = 5; budget = 9; count = 3 }
+table-ends : afterAll rules u₀ (foreign ∷ whole ∷ table-final ∷ []) .transfer ≡ record { kind = Table; state = Done; reached = record { 0 = 3 }; capacity = 5; budget = 9; count = 3 }
 unfolding after decode bodyRead frameAnswer agrees plain xorAll decodeBody byRow
 table-ends = refl
 

@@ -49,7 +49,7 @@ StateKept total budget count reached cursor m n Overflowed = ⊥
 
 pub record Kept (s : Setup) (w : World) (m n : ℕ) : Type 0 where
   pub kindIs : w .transfer .kind ≡ s .kind
-  pub sizeIs : w .transfer .size ≡ length (s .buffer)
+  pub sizeIs : w .transfer .capacity ≡ length (s .buffer)
   pub budgetIs : w .transfer .budget ≡ s .budget
   pub reachedIs : w .transfer .reached .0 ≡ length (w .accepted)
   pub first : w .accepted ≡ take (length (w .accepted)) (s .text)
@@ -147,7 +147,7 @@ module _ (setup : Setup) (supposed : Supposed setup) where
         )
 
     -- the buffer has its starting length
-    buffer-length : length (w .buffer) ≡ w .transfer .size
+    buffer-length : length (w .buffer) ≡ w .transfer .capacity
     buffer-length =
         ap length (v .holds) ∙ length-held (w .accepted) buffer (omega (arith, first-le (w .accepted) text (v .first))) ∙ sym (v .sizeIs)
 

@@ -81,13 +81,13 @@ module _ (f : Transfer → List ℕ → List ℕ → ReceiveOutcome) (h : Demand
   null-says = lost-says null-message 12 (all-bytes _ refl) refl
 
 abbrev withState : Transfer → State → Transfer
-withState t s = record { kind = t .kind; state = s; reached = t .reached; size = t .size; budget = t .budget; count = t .count }
+withState t s = record { kind = t .kind; state = s; reached = t .reached; capacity = t .capacity; budget = t .budget; count = t .count }
 
 abbrev withCount : Transfer → ℕ → Transfer
-withCount t n = record { kind = t .kind; state = t .state; reached = t .reached; size = t .size; budget = t .budget; count = n }
+withCount t n = record { kind = t .kind; state = t .state; reached = t .reached; capacity = t .capacity; budget = t .budget; count = n }
 
 abbrev withReached : Transfer → ℕ → Transfer
-withReached t o = record { kind = t .kind; state = t .state; reached = record { 0 = o }; size = t .size; budget = t .budget; count = t .count }
+withReached t o = record { kind = t .kind; state = t .state; reached = record { 0 = o }; capacity = t .capacity; budget = t .budget; count = t .count }
 
 abbrev outcome : ℕ → Transfer → List ℕ → ReceiveOutcome
 outcome n t buf = record { answer = n; transfer = t; buffer = buf }
@@ -410,7 +410,7 @@ rejects-begin-none h = let e : _≡_ {A = ℕ} 18 0 = says (beginning begin-none
 
 -- one that grants an exchange more than the budget
 abbrev begin-generous : TextKind → ℕ → ℕ → Begun
-begin-generous k size budget = record { answer = 0; transfer = record { kind = k; state = Running; reached = record { 0 = 0 }; size = size; budget = budget + 1; count = 0 } }
+begin-generous k size budget = record { answer = 0; transfer = record { kind = k; state = Running; reached = record { 0 = 0 }; capacity = size; budget = budget + 1; count = 0 } }
 
 rejects-begin-generous : Demand3 (beginning begin-generous) → ⊥
 rejects-begin-generous h = omega (arith, says (beginning begin-generous) 0 [] 0 refl h ended .2 .within refl)

@@ -27,7 +27,7 @@ receiving f = record { begin = begin; request = request; receive = f }
 
 -- a transfer that has reached an offset, with a buffer of this size
 abbrev at : State → ℕ → ℕ → Transfer
-at s o size = record { kind = Capabilities; state = s; reached = record { 0 = o }; size = size; budget = 9; count = 1 }
+at s o size = record { kind = Capabilities; state = s; reached = record { 0 = o }; capacity = size; budget = 9; count = 1 }
 
 -- 10 and 11 swapped
 abbrev swapped : ℕ → ℕ
@@ -49,7 +49,7 @@ abbrev past-runs-on : Transfer → List ℕ → List ℕ → ReceiveOutcome
 past-runs-on t buf came =
     let o = receive t buf came in
     cond (eqb (o .answer) 11)
-    (record { answer = 11; transfer = record { kind = t .kind; state = Running; reached = t .reached; size = t .size; budget = t .budget; count = o .transfer .count }; buffer = o .buffer }) o
+    (record { answer = 11; transfer = record { kind = t .kind; state = Running; reached = t .reached; capacity = t .capacity; budget = t .budget; count = o .transfer .count }; buffer = o .buffer }) o
 
 rejects-past-runs-on : CallsFollow (receiving past-runs-on) → ⊥
 unfolding decode bodyRead frameAnswer agrees plain xorAll decodeBody byRow
@@ -61,7 +61,7 @@ rejects-past-runs-on h =
 
 -- the buffer is looked at before the transfer's end: 1 where 16 is due
 abbrev size-first : Transfer → List ℕ → List ℕ → ReceiveOutcome
-size-first t buf came = cond (eqb (length buf) (t .size)) (receive t buf came) (notOffered 1 t buf)
+size-first t buf came = cond (eqb (length buf) (t .capacity)) (receive t buf came) (notOffered 1 t buf)
 
 rejects-size-first : CallsFollow (receiving size-first) → ⊥
 rejects-size-first h =

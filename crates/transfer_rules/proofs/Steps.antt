@@ -44,7 +44,7 @@ module _ (t : Transfer) (buffer came : List ℕ) where
   pub receive-closed : isOpen t ≡ false → receive t buffer came ≡ unchanged t buffer 16
   receive-closed h = rw h
 
-  pub receive-open : isOpen t ≡ true → length buffer ≡ t .size → receive t buffer came ≡ judge t buffer (fragmentOf (t .kind) (readReply came))
+  pub receive-open : isOpen t ≡ true → length buffer ≡ t .capacity → receive t buffer came ≡ judge t buffer (fragmentOf (t .kind) (readReply came))
   receive-open h e = rw (h, eq-eqb _ _ e)
 
 -- the fragment wanted, within the room

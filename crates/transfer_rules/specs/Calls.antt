@@ -20,7 +20,7 @@ use Rattle.transfer_rules.specs.Exchange.{Calls}
 -- ---- what the calls come to
 
 abbrev pub started : (answer : ℕ) → TextKind → State → (size budget : ℕ) → Begun
-started n k s size budget = record { answer = n; transfer = record { kind = k; state = s; reached = record { 0 = 0 }; size = size; budget = budget; count = 0 } }
+started n k s size budget = record { answer = n; transfer = record { kind = k; state = s; reached = record { 0 = 0 }; capacity = size; budget = budget; count = 0 } }
 
 -- a refused asking writes nothing
 abbrev pub notAsked : (answer : ℕ) → List ℕ → RequestOutcome
@@ -36,7 +36,7 @@ notOffered n t buffer = record { answer = n; transfer = t; buffer = buffer }
 -- one that "counts as one exchange", in the state and at the offset that the reply has led to
 abbrev pub offered : (answer : ℕ) → Transfer → State → (reached : ℕ) → List ℕ → ReceiveOutcome
 offered n t s o buffer =
-    record { answer = n; transfer = record { kind = t .kind; state = s; reached = record { 0 = o }; size = t .size; budget = t .budget; count = t .count + 1 }; buffer = buffer }
+    record { answer = n; transfer = record { kind = t .kind; state = s; reached = record { 0 = o }; capacity = t .capacity; budget = t .budget; count = t .count + 1 }; buffer = buffer }
 
 -- "When the count meets the budget, an open run closes as spent"
 abbrev pub runsOn : Transfer → State
@@ -45,7 +45,7 @@ runsOn t = cond (eqb (t .count + 1) (t .budget)) Exhausted Running
 -- an open transfer, with "a buffer of the starting length"
 pub record Ready (t : Transfer) (buffer : List ℕ) : Type 0 where
   pub isOpen : isOpen t ≡ true
-  pub sized : length buffer ≡ t .size
+  pub sized : length buffer ≡ t .capacity
 
 -- ---- the sentences
 
@@ -61,7 +61,7 @@ pub record CallsFollow (c : Calls) : Type 0 where
   pub refusesAsking : (t : Transfer) (output : List ℕ) → isOpen t ≡ false → c .request t output ≡ notAsked 16 output
   pub refusesOffer : (t : Transfer) (buffer came : List ℕ) → isOpen t ≡ false → c .receive t buffer came ≡ notOffered 16 t buffer
   -- "Each offering call is lent a buffer of the starting length (else 1)"
-  pub refusesBuffer : (t : Transfer) (buffer came : List ℕ) → isOpen t ≡ true → (length buffer ≡ t .size → ⊥) → c .receive t buffer came ≡ notOffered 1 t buffer
+  pub refusesBuffer : (t : Transfer) (buffer came : List ℕ) → isOpen t ≡ true → (length buffer ≡ t .capacity → ⊥) → c .receive t buffer came ≡ notOffered 1 t buffer
   -- a reply that is refused when it is read, with that number
   pub unread : (t : Transfer) (buffer came : List ℕ) (n : ℕ) → Ready t buffer → readReply came ≡ refused n → c .receive t buffer came ≡ offered n t (runsOn t) (t .reached .0) buffer
   -- "A reply of another kind, or at another offset, is 10."
@@ -69,11 +69,11 @@ pub record CallsFollow (c : Calls) : Type 0 where
       ((d : List ℕ) → m ≡ fragmentFor (t .kind) (t .reached .0) d → ⊥) → c .receive t buffer came ≡ offered 10 t (runsOn t) (t .reached .0) buffer
   -- "Data past the room is 11 and closes the run"; "room: the lesser of its length and 4,096"
   pub past : (t : Transfer) (buffer came d : List ℕ) → Ready t buffer → readReply came ≡ ok (fragmentFor (t .kind) (t .reached .0) d) →
-      min (t .size) 4096 < t .reached .0 + length d → c .receive t buffer came ≡ offered 11 t Overflowed (t .reached .0) buffer
+      min (t .capacity) 4096 < t .reached .0 + length d → c .receive t buffer came ≡ offered 11 t Overflowed (t .reached .0) buffer
   -- "An accepted piece is put at the offset"
   pub accepts : (t : Transfer) (buffer came d : List ℕ) → Ready t buffer → readReply came ≡ ok (fragmentFor (t .kind) (t .reached .0) d) →
-      t .reached .0 + length d ≤ min (t .size) 4096 → (length d ≡ 0 → ⊥) →
+      t .reached .0 + length d ≤ min (t .capacity) 4096 → (length d ≡ 0 → ⊥) →
       c .receive t buffer came ≡ offered 0 t (runsOn t) (t .reached .0 + length d) (take (t .reached .0) buffer ++ (d ++ drop (t .reached .0 + length d) buffer))
   -- "an empty one closes it as done"
   pub ends : (t : Transfer) (buffer came : List ℕ) → Ready t buffer → readReply came ≡ ok (fragmentFor (t .kind) (t .reached .0) []) →
-      t .reached .0 ≤ min (t .size) 4096 → c .receive t buffer came ≡ offered 0 t Done (t .reached .0) buffer
+      t .reached .0 ≤ min (t .capacity) 4096 → c .receive t buffer came ≡ offered 0 t Done (t .reached .0) buffer

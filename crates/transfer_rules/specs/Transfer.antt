@@ -30,7 +30,7 @@ isOpen t = isRunning (t .state) && ltb (t .count) (t .budget)
 
 -- "room: the lesser of its length and 4,096"
 abbrev pub room : Transfer → ℕ
-room t = min (t .size) longestText
+room t = min (t .capacity) longestText
 
 -- ---- begin
 
@@ -42,8 +42,8 @@ firstState budget = cond (eqb budget 0) Exhausted Running
 abbrev pub begin : TextKind → ℕ → ℕ → Begun
 begin k size budget =
     cond (leb budget mostBudget)
-    (record { answer = done; transfer = record { kind = k; state = firstState budget; reached = record { 0 = 0 }; size = size; budget = budget; count = 0 } })
-    (record { answer = notDeclarable; transfer = record { kind = k; state = Exhausted; reached = record { 0 = 0 }; size = 0; budget = 0; count = 0 } })
+    (record { answer = done; transfer = record { kind = k; state = firstState budget; reached = record { 0 = 0 }; capacity = size; budget = budget; count = 0 } })
+    (record { answer = notDeclarable; transfer = record { kind = k; state = Exhausted; reached = record { 0 = 0 }; capacity = 0; budget = 0; count = 0 } })
 
 -- ---- request
 
@@ -85,7 +85,7 @@ exhaustedAt count budget Overflowed = Overflowed
 -- "it counts as one exchange": the transfer with one more counted, in the state and at the offset that the reply has led to
 abbrev pub counted : Transfer → State → ℕ → Transfer
 counted t s o =
-    record { kind = t .kind; state = exhaustedAt (t .count + 1) (t .budget) s; reached = record { 0 = o }; size = t .size; budget = t .budget; count = t .count + 1 }
+    record { kind = t .kind; state = exhaustedAt (t .count + 1) (t .budget) s; reached = record { 0 = o }; capacity = t .capacity; budget = t .budget; count = t .count + 1 }
 
 -- a reply that is refused with the number n: "nothing" changes "apart from the count and a closing as spent"
 abbrev pub refuse : Transfer → List ℕ → ℕ → ReceiveOutcome
@@ -115,7 +115,7 @@ unchanged t buffer n = record { answer = n; transfer = t; buffer = buffer }
 abbrev pub receive : Transfer → List ℕ → List ℕ → ReceiveOutcome
 receive t buffer came =
     cond (isOpen t)
-    (cond (eqb (length buffer) (t .size)) (judge t buffer (fragmentOf (t .kind) (readReply came))) (unchanged t buffer wrongSize))
+    (cond (eqb (length buffer) (t .capacity)) (judge t buffer (fragmentOf (t .kind) (readReply came))) (unchanged t buffer wrongSize))
     (unchanged t buffer transferClosed)
 
 -- ---- what begin gives and receive keeps

@@ -27,7 +27,7 @@ pub struct Transfer {
     // The offset reached: how many bytes of the text were accepted.
     pub reached: TextOffset,
     // The length of the buffer that it was begun with.
-    pub size: usize,
+    pub capacity: usize,
     // The most exchanges that it counts.
     pub budget: u16,
     // How many exchanges it has counted.

@@ -17,7 +17,7 @@ returns : tie.Need-returns
 returns c =
     let a = c .before .before .args in
     ap
-    (λ (s : State). record { kind = a .transfer .kind; state = s; reached = a .reached; size = a .transfer .size; budget = a .transfer .budget; count = a .transfer .count + 1 })
+    (λ (s : State). record { kind = a .transfer .kind; state = s; reached = a .reached; capacity = a .transfer .capacity; budget = a .transfer .budget; count = a .transfer .count + 1 })
     (c .exhausted-at .ensures)
 
 pub counted-spec : {M : Type 1} → statement M

@@ -163,6 +163,33 @@ fn edits() -> BTreeSet<String> {
     edits
 }
 
+/// Every word of the definitions and proofs that has a hyphen in it, as the names of laws and theorems have.
+fn names_of_laws() -> BTreeSet<String> {
+    let mut names = BTreeSet::new();
+    for entry in fs::read_dir(repository().join("crates")).unwrap() {
+        for part in ["specs", "proofs"] {
+            for file in fs::read_dir(entry.as_ref().unwrap().path().join(part)).into_iter().flatten() {
+                let path = file.unwrap().path();
+                if path.extension().is_some_and(|extension| extension == "antt") {
+                    let text = fs::read_to_string(path).unwrap();
+                    let words = text.split(|c: char| !(c.is_alphanumeric() || c == '-'));
+                    names.extend(words.filter(|word| word.contains('-')).map(str::to_string));
+                }
+            }
+        }
+    }
+    names
+}
+
+#[test]
+fn the_statements_cite_laws_that_there_are() {
+    let (text, names) = (text_of("docs/STATEMENTS.md"), names_of_laws());
+    let of_a_law = |name: &&str| name.contains('-') && name.chars().all(|c| c.is_ascii_alphanumeric() || c == '-');
+    for name in text.split('`').skip(1).step_by(2).filter(of_a_law) {
+        assert!(names.contains(name), "docs/STATEMENTS.md cites {name}, which no crate has");
+    }
+}
+
 #[test]
 fn the_statements_cite_what_there_is() {
     let (cited, edits) = (cited("docs/STATEMENTS.md"), edits());

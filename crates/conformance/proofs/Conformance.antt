@@ -10,7 +10,7 @@ use lib.Dec.{eqb, ltb}
 use borrow.Author.Tests.{eqb-true, eqb-false, ltb-true, ltb-false}
 use Rattle.message_rules.specs.Limits.{mostFragment}
 use Rattle.message_rules.specs.Message.{requests, encode, toDisplay}
-use Rattle.settings.specs.declared.Declaration.{Declaration}
+use Rattle.settings_rules.specs.declared.Declaration.{Declaration}
 use Rattle.display_rules.specs.State.{cursorOf, declare}
 use Rattle.display_rules.specs.Turn.{bytesOf}
 use Rattle.display_rules.specs.Fragments.{lesser, fragmentAt, fragmentReply}

@@ -10,7 +10,7 @@ use Rattle.checksum.specs.Bytes.{Bytes}
 use Rattle.message_rules.specs.Message.{requests, decode, toDisplay}
 use Rattle.message_rules.specs.declared.TextKind.{TextKind}
 use Rattle.codes.specs.Codes.{allCodes}
-use Rattle.settings.specs.declared.Declaration.{Declaration}
+use Rattle.settings_rules.specs.declared.Declaration.{Declaration}
 use Rattle.display_rules.specs.State.{cursorOf, declare}
 use Rattle.display_rules.specs.Step.{lentWell, Outcome}
 use Rattle.display_rules.specs.Statements.{StepRule, Made, whole, touches}

@@ -6,7 +6,7 @@ use mathlib.Core.List.{List}
 use lib.ListN.{length, take}
 use Rattle.message_rules.specs.Answer.{done}
 use Rattle.message_rules.specs.Message.{requests, decode, toDisplay}
-use Rattle.settings.specs.declared.Declaration.{Declaration}
+use Rattle.settings_rules.specs.declared.Declaration.{Declaration}
 use Rattle.profile_rules.specs.Profile.{loadProfile}
 use Rattle.display_rules.specs.State.{cursorOf, declare, withSettings}
 use Rattle.display_rules.specs.Step.{lentWell, Outcome}

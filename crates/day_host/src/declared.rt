@@ -3,8 +3,8 @@ use day_report::messages::BRIGHTNESS;
 use day_report::messages::CONTRAST;
 use day_report::messages::DEGAUSS;
 use day_report::messages::INPUT;
-use settings::Declaration;
-use settings::Timing;
+use settings_rules::Declaration;
+use settings_rules::Timing;
 
 // How many codes a display has.
 pub const CODES: usize = 4;

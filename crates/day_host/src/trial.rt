@@ -3,7 +3,7 @@ use crate::records;
 use message_rules::answer;
 use profile_rules::Loaded;
 use profile_rules::RECORD_SIZE;
-use settings::Settings;
+use settings_rules::Settings;
 
 // Room for three records: brightness, contrast and input.
 const PROFILE_ROOM: usize = RECORD_SIZE * 3;

@@ -20,8 +20,8 @@ use display_rules::FragmentCursor;
 use message_rules::TextKind;
 use message_rules::answer;
 use profile_rules::Written;
-use settings::Declaration;
-use settings::Timing;
+use settings_rules::Declaration;
+use settings_rules::Timing;
 
 // The number of the text that a fragment was sent of: the capabilities string.
 pub const CAPABILITIES: u8 = 1;

@@ -14,8 +14,8 @@ use Rattle.message_builder.specs.Output.{Builds}
 use Rattle.message_builder.specs.declared.Built.{Built}
 use Rattle.message_builder.specs.declared.Built.the-variants.{Done, Refused}
 use Rattle.codes.specs.Codes.{member}
-use Rattle.settings.specs.Settings.{withPresent, setAnswer, judgeSet, setCode}
-use Rattle.settings.proofs.Answers.{both}
+use Rattle.settings_rules.specs.Settings.{withPresent, setAnswer, judgeSet, setCode}
+use Rattle.settings_rules.proofs.Answers.{both}
 use Rattle.display_rules.specs.State.{withSettings}
 use Rattle.display_rules.specs.Turn.{accepted, refusal, noReply, setTurn}
 use Rattle.display_rules.specs.Fragments.{lesser, nextCursor, foundBytes}

@@ -9,7 +9,7 @@ use Rattle.message_rules.specs.Answer.{done, wrongSize}
 use Rattle.message_rules.specs.Message.{Request, getFeature, setFeature, timing, save, text, tableRead, tableWrite, requests, decode, toDisplay}
 use Rattle.message_rules.specs.Read.{Read, ok, refused}
 use Rattle.message_rules.specs.declared.TextKind.{TextKind}
-use Rattle.settings.specs.Settings.{judgeSet, withPresent, saveAll}
+use Rattle.settings_rules.specs.Settings.{judgeSet, withPresent, saveAll}
 use Rattle.display_rules.specs.State.{unsent, withSettings, withTable, withCursor}
 use Rattle.display_rules.specs.Turn.{Turn}
 use Rattle.display_rules.specs.Step.{obey, turnOf, lentWell, Outcome, left}

@@ -1,7 +1,7 @@
 // What a step does to the display itself.
 // A message is judged and answered first, with a small result; the display, which is large, is then passed on once.
 ghost use mathlib.Core.Path.{_≡_};
-ghost use Rattle.settings.specs.Settings.{withPresent, saveAll};
+ghost use Rattle.settings_rules.specs.Settings.{withPresent, saveAll};
 ghost use Rattle.display_rules.specs.State.{unsent, withSettings, withTable, withCursor};
 ghost use Rattle.display.specs.Changes.{answered, moved};
 use display_rules::Display;
@@ -46,16 +46,12 @@ pub(crate) fn answered(d: Display, answer: u8, length: usize) -> Stepped
 }
 
 // Returns the display with another present value of a code.
-// Only the array is taken out and changed, so that no more is copied twice.
 pub fn stored(mut d: Display, code: u8, value: u16) -> Display
     ensures { λ r. ⌜ r ≡ withSettings d (withPresent (d .settings) code value) ⌝ }
 {
-    let i = code as usize;
-    let mut settings = d.settings;
-    let mut present = settings.present;
-    present[i] = value;
-    settings.present = present;
-    d.settings = settings;
+    let settings = d.settings;
+    let after = settings::store(settings, code, value);
+    d.settings = after;
     d
 }
 

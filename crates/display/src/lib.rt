@@ -26,9 +26,9 @@ use message_rules::answer;
 use message_rules::limits::LONGEST_TEXT;
 use message_rules::limits::MOST_FRAGMENT;
 use message_rules::limits::OUTPUT_ROOM;
-use settings::Declaration;
-use settings::Settings;
-use settings::Timing;
+use settings_rules::Declaration;
+use settings_rules::Settings;
+use settings_rules::Timing;
 
 // ---- the start and declaring
 

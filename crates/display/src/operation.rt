@@ -8,7 +8,7 @@ ghost use lib.ListN.{length, take, drop};
 ghost use Rattle.message_rules.specs.Limits.{outputRoom};
 ghost use Rattle.message_rules.specs.Message.{setFeature, timing, tableRead, tableWrite};
 ghost use Rattle.message_rules.specs.Read.{refused};
-ghost use Rattle.settings.specs.Settings.{getCode};
+ghost use Rattle.settings_rules.specs.Settings.{getCode};
 ghost use Rattle.display_rules.specs.State.{textState};
 ghost use Rattle.display_rules.specs.Turn.{bytesOf, featureReply, setTurn, timingTurn};
 ghost use Rattle.display_rules.specs.Limits.{tableRoom};
@@ -33,7 +33,7 @@ use message_rules::TextKind;
 use message_rules::TextOffset;
 use message_rules::answer;
 use message_rules::limits::MOST_FRAGMENT;
-use settings::Settings;
+use settings_rules::Settings;
 
 // Answers a Get, and returns the length of the reply.
 pub(crate) fn get(s: Settings, code: u8, out: &mut [u8]) -> usize

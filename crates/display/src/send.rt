@@ -12,7 +12,7 @@ use message_builder::Built;
 use message_builder::reply;
 use message_rules::TO_HOST;
 use message_rules::TextKind;
-use settings::Feature;
+use settings_rules::Feature;
 
 // Returns the length of what was built.
 pub(crate) fn length_of(built: Built) -> usize

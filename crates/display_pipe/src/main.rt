@@ -10,8 +10,8 @@ use message_rules::Position;
 use message_rules::answer::DONE;
 use message_rules::limits::OUTPUT_ROOM;
 use records::word_at;
-use settings::Declaration;
-use settings::Timing;
+use settings_rules::Declaration;
+use settings_rules::Timing;
 
 // The bytes in front of a record's body: its kind, and the body's length.
 const HEAD: usize = 3;

@@ -12,9 +12,9 @@ use Rattle.message_rules.specs.Answer.{done, wrongSize, wrongField, codeNotAllo
 use Rattle.message_rules.specs.Message.{Request, getFeature, setFeature, timing, save, text, tableRead, tableWrite, requests, decode, null, toDisplay, toHost}
 use Rattle.message_rules.specs.Read.{Read, ok, refused}
 use Rattle.message_rules.specs.Message.{tableCode}
-use Rattle.settings.specs.Settings.{reservedBits, declareCode, setAnswer, setCode, withPresent, saveAll, timingIn}
-use Rattle.settings.proofs.Theorems.{counts-the-declared, declaring-counts-one, refused-declare-keeps}
-use Rattle.settings.specs.declared.Settings.{Settings}
+use Rattle.settings_rules.specs.Settings.{reservedBits, declareCode, setAnswer, setCode, withPresent, saveAll, timingIn}
+use Rattle.settings_rules.proofs.Theorems.{counts-the-declared, declaring-counts-one, refused-declare-keeps}
+use Rattle.settings_rules.specs.declared.Settings.{Settings}
 use Rattle.display_rules.specs.State.{declare}
 use Rattle.display_rules.specs.Turn.{Turn, refusal, accepted, noReply, bytesOf, timingOf, getTurn, setTurn, saveTurn, timingTurn}
 use Rattle.display_rules.specs.Fragments.{readTurn, tableReadTurn}

@@ -14,9 +14,9 @@ use Rattle.message_rules.specs.declared.Direction.the-variants as way
 use Rattle.message_rules.proofs.Order.{null-read}
 use Rattle.message_rules.proofs.Frames.{length-frame}
 use Rattle.message_rules.proofs.RoundTrip.{requests-round}
-use Rattle.settings.specs.Settings.{getCode}
-use Rattle.settings.specs.Entries.{Entry, entryOf}
-use Rattle.settings.proofs.Operations.{sets-as-written, saves-as-written}
+use Rattle.settings_rules.specs.Settings.{getCode}
+use Rattle.settings_rules.specs.Entries.{Entry, entryOf}
+use Rattle.settings_rules.proofs.Operations.{sets-as-written, saves-as-written}
 use Rattle.display_rules.specs.Turn.{Turn, refusal, accepted, bytesOf, getTurn, setTurn, saveTurn, timingTurn}
 use Rattle.display_rules.specs.Step.{obey, lentWell, turn, outcome, step}
 use Rattle.display_rules.specs.Operations.{LentRight, Says, ReaderRefuses, Replies, Sends, Gets, GetsFollow, SetsFollow, SavesFollow, TimingSent}

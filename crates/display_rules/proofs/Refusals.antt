@@ -12,7 +12,7 @@ use Rattle.message_rules.specs.Read.{Read, ok, refused, unless}
 use Rattle.message_rules.proofs.Order.{null-read}
 use Rattle.buffers.specs.Buffers.{over}
 use Rattle.message_rules.specs.Message.{tableCode}
-use Rattle.settings.specs.Settings.{reservedBits, setCode, setAnswer, answerToSet, timingIn}
+use Rattle.settings_rules.specs.Settings.{reservedBits, setCode, setAnswer, answerToSet, timingIn}
 use Rattle.display_rules.specs.Limits.{tableRoom}
 use Rattle.display_rules.specs.State.{unsent, withTable}
 use Rattle.display_rules.specs.Turn.{Turn, refusal, accepted, noReply, bytesOf, timingOf, getTurn, setTurn, saveTurn, timingTurn}

@@ -20,7 +20,7 @@ use Rattle.message_rules.proofs.Frames.{length-frame}
 use Rattle.message_rules.proofs.RoundTrip.{requests-round}
 use Rattle.buffers.specs.Buffers.{over}
 use Rattle.message_rules.specs.Message.{tableCode}
-use Rattle.settings.specs.declared.Timing.{Timing}
+use Rattle.settings_rules.specs.declared.Timing.{Timing}
 use Rattle.display_rules.specs.Limits.{tableRoom}
 use Rattle.display_rules.specs.State.{unsent, withTable, cursorOf, start, startAnswer}
 use Rattle.display_rules.specs.Turn.{accepted, noReply, bytesOf}

@@ -14,13 +14,13 @@ use Rattle.message_rules.specs.Body as body
 use Rattle.message_rules.specs.Frame.{frame}
 use Rattle.message_rules.specs.Message.{Request, getFeature, setFeature, timing, save, tableWrite, value, timingReply, requests, replies, encode, Valid, toDisplay, toHost}
 use Rattle.message_rules.proofs.RoundTrip.{requests-round}
-use Rattle.settings.specs.Settings.{startingSettings, withPresent, saveAll}
-use Rattle.settings.specs.Entries.{Entry, entryOf, entryPresent, entrySaved, Sized}
-use Rattle.settings.specs.Operations.{Declarable, DeclaredAs, Declares}
-use Rattle.settings.specs.declared.Declaration.{Declaration}
-use Rattle.settings.specs.declared.Settings.{Settings}
-use Rattle.settings.specs.declared.Timing.{Timing}
-use Rattle.settings.proofs.Stores.{present-stored, present-sized}
+use Rattle.settings_rules.specs.Settings.{startingSettings, withPresent, saveAll}
+use Rattle.settings_rules.specs.Entries.{Entry, entryOf, entryPresent, entrySaved, Sized}
+use Rattle.settings_rules.specs.Operations.{Declarable, DeclaredAs, Declares}
+use Rattle.settings_rules.specs.declared.Declaration.{Declaration}
+use Rattle.settings_rules.specs.declared.Settings.{Settings}
+use Rattle.settings_rules.specs.declared.Timing.{Timing}
+use Rattle.settings_rules.proofs.Stores.{present-stored, present-sized}
 use Rattle.display_rules.specs.State.{unsent, withTable, withSettings, emptyDisplay, startAnswer, start, declare}
 use Rattle.display_rules.specs.Turn.{saveTurn}
 use Rattle.display_rules.specs.Step.{Outcome, step}

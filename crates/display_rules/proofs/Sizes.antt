@@ -12,7 +12,7 @@ use Rattle.message_rules.specs.Answer.{done, wrongSize, wrongField, codeNotAllo
 use Rattle.message_rules.specs.Message.{Request, getFeature, setFeature, timing, save, text, tableRead, tableWrite, requests, decode, null, toDisplay, toHost}
 use Rattle.message_rules.specs.Read.{Read, ok, refused, unless}
 use Rattle.message_rules.proofs.Order.{requests-range}
-use Rattle.settings.specs.Settings.{reservedBits, exceedsMaximum, setAnswer, answerToSet, setCode, timingIn}
+use Rattle.settings_rules.specs.Settings.{reservedBits, exceedsMaximum, setAnswer, answerToSet, setCode, timingIn}
 use Rattle.display_rules.specs.Turn.{refusal, accepted, noReply, bytesOf, timingOf, getTurn, setTurn, saveTurn, timingTurn}
 use Rattle.display_rules.specs.Fragments.{readTurn, tableReadTurn}
 use Rattle.display_rules.specs.Table.{writeAnswer, tableWriteTurn}

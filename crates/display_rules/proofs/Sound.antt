@@ -16,13 +16,13 @@ use Rattle.message_rules.specs.Message.{Request, getFeature, setFeature, timing
 use Rattle.message_rules.specs.Read.{Read, ok, refused, unless}
 use Rattle.message_rules.proofs.RoundTrip.{requests-round}
 use Rattle.message_rules.proofs.Tests.{cond-zero}
-use Rattle.settings.specs.Entries as entries
+use Rattle.settings_rules.specs.Entries as entries
 use Rattle.message_rules.specs.Message.{tableCode}
-use Rattle.settings.specs.Settings.{reservedBits, startWith, timingIn}
-use Rattle.settings.proofs.Theorems.{start-is-sound, empty-is-sound, declare-keeps-sound, set-keeps-sound, save-keeps-sound}
+use Rattle.settings_rules.specs.Settings.{reservedBits, startWith, timingIn}
+use Rattle.settings_rules.proofs.Theorems.{start-is-sound, empty-is-sound, declare-keeps-sound, set-keeps-sound, save-keeps-sound}
 use Rattle.profile_rules.proofs.Theorems.{load-keeps-sound}
-use Rattle.settings.specs.declared.Settings.{Settings}
-use Rattle.settings.specs.declared.Timing.{Timing}
+use Rattle.settings_rules.specs.declared.Settings.{Settings}
+use Rattle.settings_rules.specs.declared.Timing.{Timing}
 use Rattle.message_rules.specs.Limits.{longestText}
 use Rattle.display_rules.specs.Limits.{tableRoom}
 use Rattle.display_rules.specs.State.{fresh, emptyDisplay, sizeRefused, startAnswer, start, declare, withSettings}

@@ -3,11 +3,11 @@ use mathlib.Core.Path.{_≡_, refl, _∙_}
 use Prim.Native.Nat.{ℕ, _≤_, _<_}
 use native.Mathlib.Omega.{arith}
 use borrow.Author.Tests.{eq-eqb, ne-eqb, le-leb, lt-leb, lt-ltb, le-ltb}
-use Rattle.settings.specs.Settings.{startWith}
-use Rattle.settings.specs.Operations.{noTiming, NoCode, Starts}
-use Rattle.settings.specs.declared.Settings.{Settings}
-use Rattle.settings.specs.declared.Timing.{Timing}
-use Rattle.settings.proofs.Operations.{no-code, starts-as-written, declares-as-written}
+use Rattle.settings_rules.specs.Settings.{startWith}
+use Rattle.settings_rules.specs.Operations.{noTiming, NoCode, Starts}
+use Rattle.settings_rules.specs.declared.Settings.{Settings}
+use Rattle.settings_rules.specs.declared.Timing.{Timing}
+use Rattle.settings_rules.proofs.Operations.{no-code, starts-as-written, declares-as-written}
 use Rattle.display_rules.specs.State.{fresh, startAnswer, start, declare}
 use Rattle.display_rules.specs.Starts.{Fresh, StartNumbers, DeclareRefuses}
 use Rattle.display_rules.proofs.Sound.{start-accepted}

@@ -12,7 +12,7 @@ use Rattle.message_rules.specs.Answer.{done, wrongSize, wrongField, codeNotAllo
 use Rattle.message_rules.specs.Message.{Request, getFeature, setFeature, timing, save, text, tableRead, tableWrite, requests, decode, null, toDisplay, toHost}
 use Rattle.message_rules.specs.Read.{Read, ok, refused}
 use Rattle.message_rules.specs.Message.{tableCode}
-use Rattle.settings.specs.Settings.{reservedBits, timingIn}
+use Rattle.settings_rules.specs.Settings.{reservedBits, timingIn}
 use Rattle.display_rules.specs.Limits.{tableRoom}
 use Rattle.display_rules.specs.State.{cursorOf}
 use Rattle.display_rules.specs.Turn.{Turn, refusal, accepted, noReply, bytesOf, timingOf, getTurn, setTurn, saveTurn, timingTurn}

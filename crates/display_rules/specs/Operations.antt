@@ -10,8 +10,8 @@ use lib.ListN.{length, take, drop}
 use Rattle.checksum.specs.Bytes.{Bytes}
 use Rattle.message_rules.specs.Message.{Request, getFeature, setFeature, timing, save, text, Reply, value, timingReply, requests, replies, encode, decode, toDisplay, toHost}
 use Rattle.message_rules.specs.Read.{ok, refused}
-use Rattle.settings.specs.Entries.{entryOf, Sized}
-use Rattle.settings.specs.Operations.{Sets, Saves}
+use Rattle.settings_rules.specs.Entries.{entryOf, Sized}
+use Rattle.settings_rules.specs.Operations.{Sets, Saves}
 use Rattle.display_rules.specs.Step.{Outcome}
 use Rattle.display_rules.specs.Statements.{StepRule, Made}
 use Rattle.display_rules.specs.declared.Display.{Display}

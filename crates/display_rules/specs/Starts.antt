@@ -1,10 +1,10 @@
 -- Document 01, "The board": the start and declaring sentence by sentence, of any rule for each.
 use Prim.Native.Nat.{ℕ, _/_, _%_, _≤_, _<_}
 use mathlib.Core.Path.{_≡_}
-use Rattle.settings.specs.Entries.{Sized}
-use Rattle.settings.specs.Operations.{noTiming, NoCode, Declares}
-use Rattle.settings.specs.declared.Declaration.{Declaration}
-use Rattle.settings.specs.declared.Timing.{Timing}
+use Rattle.settings_rules.specs.Entries.{Sized}
+use Rattle.settings_rules.specs.Operations.{noTiming, NoCode, Declares}
+use Rattle.settings_rules.specs.declared.Declaration.{Declaration}
+use Rattle.settings_rules.specs.declared.Timing.{Timing}
 use Rattle.display_rules.specs.Operations.{SameTexts}
 use Rattle.display_rules.specs.declared.TextState.{TextState}
 use Rattle.display_rules.specs.declared.Display.{Display}

@@ -5,10 +5,10 @@ use lib.Dec.{eqb, leb, ltb}
 use Rattle.message_rules.specs.Answer.{done, textTooLong, notDeclarable}
 use Rattle.message_rules.specs.Limits.{mostFragment}
 use Rattle.message_rules.specs.Read.{unless}
-use Rattle.settings.specs.Settings.{emptySettings, startWith, declareCode}
-use Rattle.settings.specs.declared.Declaration.{Declaration}
-use Rattle.settings.specs.declared.Settings.{Settings}
-use Rattle.settings.specs.declared.Timing.{Timing}
+use Rattle.settings_rules.specs.Settings.{emptySettings, startWith, declareCode}
+use Rattle.settings_rules.specs.declared.Declaration.{Declaration}
+use Rattle.settings_rules.specs.declared.Settings.{Settings}
+use Rattle.settings_rules.specs.declared.Timing.{Timing}
 use Rattle.message_rules.specs.Limits.{longestText}
 use Rattle.message_rules.specs.declared.TextKind.{TextKind}
 use Rattle.message_rules.specs.declared.TextKind.the-variants.{Capabilities, Table}

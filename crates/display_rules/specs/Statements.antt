@@ -14,10 +14,10 @@ use Rattle.message_rules.specs.Message.{Request, getFeature, setFeature, timing
 use Rattle.message_rules.specs.Read.{Read, ok, refused}
 use Rattle.buffers.specs.Buffers.{over}
 use Rattle.profile_rules.specs.Profile.{loadProfile}
-use Rattle.settings.specs.Entries as entries
+use Rattle.settings_rules.specs.Entries as entries
 use Rattle.message_rules.specs.Message.{tableCode}
-use Rattle.settings.specs.declared.Declaration.{Declaration}
-use Rattle.settings.specs.declared.Timing.{Timing}
+use Rattle.settings_rules.specs.declared.Declaration.{Declaration}
+use Rattle.settings_rules.specs.declared.Timing.{Timing}
 use Rattle.message_rules.specs.Limits.{longestText}
 use Rattle.display_rules.specs.Limits.{tableRoom}
 use Rattle.display_rules.specs.State.{startingCursor, cursorOf, withSettings, start, declare}

@@ -5,9 +5,9 @@ use mathlib.Core.List.{List, []}
 use lib.Dec.{eqb}
 use Rattle.message_rules.specs.Answer.{done, wrongField}
 use Rattle.message_rules.specs.Message.{Reply, value, timingReply, replies, encode, toHost}
-use Rattle.settings.specs.Settings.{reservedBits, getCode, setCode, saveAll, timingIn}
-use Rattle.settings.specs.declared.Feature.{Feature}
-use Rattle.settings.specs.declared.Timing.{Timing}
+use Rattle.settings_rules.specs.Settings.{reservedBits, getCode, setCode, saveAll, timingIn}
+use Rattle.settings_rules.specs.declared.Feature.{Feature}
+use Rattle.settings_rules.specs.declared.Timing.{Timing}
 use Rattle.display_rules.specs.State.{withSettings}
 use Rattle.display_rules.specs.declared.Display.{Display}
 use Rattle.display_rules.specs.declared.Found.{Found}

@@ -4,7 +4,7 @@ pub mod limits;
 
 use message_rules::TextKind;
 use message_rules::TextOffset;
-use settings::Settings;
+use settings_rules::Settings;
 
 // The fragment of a text that was sent last (the papers' place of a text).
 #[repr(C)]

@@ -14,9 +14,9 @@ use buffers::octet;
 use display_rules::Changed;
 use libc::STDIN_FILENO;
 use libc::STDOUT_FILENO;
-use settings::Declaration;
-use settings::Settings;
-use settings::Timing;
+use settings_rules::Declaration;
+use settings_rules::Settings;
+use settings_rules::Timing;
 
 // One byte more than the longest input.
 const INPUT_ROOM: usize = 32768;

@@ -10,8 +10,8 @@ use Rattle.message_rules.specs.Message.{Request, getFeature, setFeature, timing
 use Rattle.capabilities_rules.specs.Nodes.{nodesOf}
 use Rattle.capabilities_rules.specs.Outcome.{refused, outcome}
 use Rattle.capabilities_rules.specs.declared.Reading.the-variants.{Accepted}
-use Rattle.settings.specs.Settings.{emptySettings, declareCode}
-use Rattle.settings.specs.declared.Declaration.{Declaration}
+use Rattle.settings_rules.specs.Settings.{emptySettings, declareCode}
+use Rattle.settings_rules.specs.declared.Declaration.{Declaration}
 use Rattle.profile_rules.specs.Profile.{profileOf, loadProfile}
 
 -- what an example says

@@ -10,10 +10,10 @@ use lib.Dec.{eqb}
 use borrow.Author.Tests.{eq-eqb, ne-eqb}
 use Rattle.message_rules.specs.Answer.{done, codeNotAllowed, valueTooLarge, brokenProfile}
 use Rattle.codes.specs.Codes.{allCodes, member}
-use Rattle.settings.specs.Settings.{exceedsMaximum}
-use Rattle.settings.specs.Entries.{entryOf}
-use Rattle.settings.specs.Values.{withValue}
-use Rattle.settings.specs.declared.Settings.{Settings}
+use Rattle.settings_rules.specs.Settings.{exceedsMaximum}
+use Rattle.settings_rules.specs.Entries.{entryOf}
+use Rattle.settings_rules.specs.Values.{withValue}
+use Rattle.settings_rules.specs.declared.Settings.{Settings}
 use Rattle.records.specs.Numbers.{wordAt}
 use Rattle.records.proofs.Numbers.{number-dropped}
 use Rattle.records.proofs.Records.{stands-whole}

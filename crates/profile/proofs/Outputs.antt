@@ -10,7 +10,7 @@ use Rattle.buffers.specs.Buffers.{put}
 use Rattle.buffers.proofs.Puts.{put-none, put-length, put-over, put-next}
 use Rattle.message_rules.specs.Answer.{done, wrongSize}
 use Rattle.codes.specs.Codes.{allCodes, member, countOf}
-use Rattle.settings.specs.declared.Settings.{Settings}
+use Rattle.settings_rules.specs.declared.Settings.{Settings}
 use Rattle.profile_rules.specs.Records.{valueRecord, recordSize}
 use Rattle.profile_rules.specs.Profile.{codesFrom, profileCodes, recordsOf, profileOf, writeProfile}
 use Rattle.profile_rules.proofs.Records.{records-length}

@@ -8,8 +8,8 @@ use lib.ListN.{getD}
 use lib.Bits.{bitAnd, and-shr, and-mod, bitOr}
 use Rattle.codes.specs.Codes.{allCodes, bit, member}
 use Rattle.codes.proofs.Bits.{bit-of-operation, bit-or, bit-xor}
-use Rattle.settings.specs.Entries.{entryOf}
-use Rattle.settings.specs.declared.Settings.{Settings}
+use Rattle.settings_rules.specs.Entries.{entryOf}
+use Rattle.settings_rules.specs.declared.Settings.{Settings}
 use Rattle.profile_rules.specs.Profile.{inProfile, profileCode, profileCodes, codesFrom}
 use Rattle.profile_rules.proofs.Rising.{rising-ext}
 use Rattle.profile.specs.Parts.{profileWord, profileWords}

@@ -3,8 +3,8 @@ use Prim.Native.Nat.{ℕ, zero, suc}
 use mathlib.Core.List.{List, [], _∷_}
 use lib.ListN.{getD, drop}
 use lib.Bits.{bitAnd, bitOr, bitXor}
-use Rattle.settings.specs.Values.{withValue}
-use Rattle.settings.specs.declared.Settings.{Settings}
+use Rattle.settings_rules.specs.Values.{withValue}
+use Rattle.settings_rules.specs.declared.Settings.{Settings}
 use Rattle.profile_rules.specs.declared.Judged.{Judged}
 use Rattle.profile_rules.specs.Records.{recordSize, codeIn, valueIn}
 

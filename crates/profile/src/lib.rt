@@ -21,7 +21,7 @@ use profile_rules::Written;
 use records::byte_at;
 use records::stands;
 use records::word_at;
-use settings::Settings;
+use settings_rules::Settings;
 ghost use mathlib.Core.Path.{_≡_};
 ghost use Prim.Native.Nat.{_+_, _*_, _/_, _≤_, _<_};
 ghost use lib.ListN.{length, getD, drop};

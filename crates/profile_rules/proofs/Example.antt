@@ -9,13 +9,13 @@ use lib.Seq.{set-set}
 use lib.Dec.{eqb}
 use Rattle.message_rules.specs.Answer.{done}
 use Rattle.codes.specs.Codes.{allCodes, member}
-use Rattle.settings.specs.Settings.{emptySettings, withDeclaration, declareCode, startingSettings, declarationRefused}
-use Rattle.settings.specs.Entries.{Entry, entryOf, entryDeclared}
-use Rattle.settings.specs.Values.{withValue}
-use Rattle.settings.specs.declared.Settings.{Settings}
-use Rattle.settings.specs.declared.Declaration.{Declaration}
-use Rattle.settings.proofs.Answers.{declare-accepted}
-use Rattle.settings.proofs.Theorems.{declare-accepts, declares-one, starts-with-none, empty-is-sound}
+use Rattle.settings_rules.specs.Settings.{emptySettings, withDeclaration, declareCode, startingSettings, declarationRefused}
+use Rattle.settings_rules.specs.Entries.{Entry, entryOf, entryDeclared}
+use Rattle.settings_rules.specs.Values.{withValue}
+use Rattle.settings_rules.specs.declared.Settings.{Settings}
+use Rattle.settings_rules.specs.declared.Declaration.{Declaration}
+use Rattle.settings_rules.proofs.Answers.{declare-accepted}
+use Rattle.settings_rules.proofs.Theorems.{declare-accepts, declares-one, starts-with-none, empty-is-sound}
 use mathlib.Core.Logic.{inl}
 use Rattle.records.specs.Numbers.{littleEndian}
 use Rattle.records.specs.Records.{beginsWith}

@@ -8,9 +8,9 @@ use lib.ListN.{length, getD, drop, length-drop}
 use lib.Dec.{eqb}
 use borrow.Author.Tests.{eq-eqb, ne-eqb, eqb-true}
 use Rattle.message_rules.specs.Answer.{done, brokenProfile}
-use Rattle.settings.specs.Settings.{exceedsMaximum}
-use Rattle.settings.specs.Entries.{entryOf}
-use Rattle.settings.specs.declared.Settings.{Settings}
+use Rattle.settings_rules.specs.Settings.{exceedsMaximum}
+use Rattle.settings_rules.specs.Entries.{entryOf}
+use Rattle.settings_rules.specs.declared.Settings.{Settings}
 use Rattle.profile_rules.specs.Records.{valueRecord, recordSize}
 use Rattle.profile_rules.specs.Profile.{recordsOf, recordAnswer, answerTo, judge}
 use Rattle.profile_rules.specs.Statements.{Alike}

@@ -5,9 +5,9 @@ use mathlib.Core.List.{List, _∷_}
 use Prim.Native.Nat.{ℕ, zero, suc, _+_, _≤_}
 use native.Mathlib.Omega.{arith}
 use borrow.Author.Tests.{not-true}
-use Rattle.settings.specs.Entries.{entryOf}
-use Rattle.settings.specs.declared.Settings.{Settings}
-use Rattle.settings.proofs.Answers.{both}
+use Rattle.settings_rules.specs.Entries.{entryOf}
+use Rattle.settings_rules.specs.declared.Settings.{Settings}
+use Rattle.settings_rules.proofs.Answers.{both}
 use Rattle.profile_rules.specs.Profile.{inProfile, profileCode, rising, profileCodes}
 use Rattle.profile_rules.specs.Operations.{InProfile, CodesFrom, end, inside, outside, CodesAsWritten}
 

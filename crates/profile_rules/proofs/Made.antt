@@ -1,9 +1,9 @@
 -- Settings that calls have made are sound, whatever profiles were loaded in between, and what they write loads back.
 -- Assumes nothing.
 use mathlib.Core.Path.{refl}
-use Rattle.settings.specs.declared.Settings.{Settings}
-use Rattle.settings.specs.Entries.{Sound}
-use Rattle.settings.proofs.Theorems.{start-is-sound, declare-keeps-sound, set-keeps-sound, save-keeps-sound}
+use Rattle.settings_rules.specs.declared.Settings.{Settings}
+use Rattle.settings_rules.specs.Entries.{Sound}
+use Rattle.settings_rules.proofs.Theorems.{start-is-sound, declare-keeps-sound, set-keeps-sound, save-keeps-sound}
 use Rattle.profile_rules.specs.Statements.{Made, started, declared, valued, saved, loaded, MadeIsSound, MadeLoadsBack}
 use Rattle.profile_rules.proofs.Theorems.{written-loads, load-keeps-sound}
 

@@ -8,11 +8,11 @@ use lib.ListN.{length, getD, drop}
 use lib.Seq.{take-at, drop-at, getD-drop}
 use lib.Dec.{eqb, leb}
 use borrow.Author.Tests.{eqb-true, eqb-false, le-leb, lt-leb, leb-true, leb-false}
-use Rattle.settings.specs.Entries.{Entry, entryOf, Sized}
-use Rattle.settings.specs.Operations.{SameTiming}
-use Rattle.settings.specs.Values.{withValue, entryValue}
-use Rattle.settings.specs.declared.Settings.{Settings}
-use Rattle.settings.proofs.Values.{value-sized}
+use Rattle.settings_rules.specs.Entries.{Entry, entryOf, Sized}
+use Rattle.settings_rules.specs.Operations.{SameTiming}
+use Rattle.settings_rules.specs.Values.{withValue, entryValue}
+use Rattle.settings_rules.specs.declared.Settings.{Settings}
+use Rattle.settings_rules.proofs.Values.{value-sized}
 use Rattle.profile_rules.specs.Records.{valueIn}
 use Rattle.profile_rules.specs.Profile.{profileCode, profileCodes, recordsOf, profileOf, writeProfile, judgeProfile, stored, loadAs, loadProfile}
 use Rattle.profile_rules.specs.Operations.{InProfile, recordThen, savedRecords, WriteNumbers, Judges, LoadNumbers}

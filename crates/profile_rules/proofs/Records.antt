@@ -11,7 +11,7 @@ use borrow.Author.Tests.{eqb-true, eq-eqb}
 use Rattle.checksum.specs.Bytes.{Bytes}
 use Rattle.checksum.proofs.Bytes.{bytes-at}
 use Rattle.message_rules.specs.Answer.{done}
-use Rattle.settings.specs.Settings.{exceedsMaximum}
+use Rattle.settings_rules.specs.Settings.{exceedsMaximum}
 use Rattle.records.specs.Numbers.{littleEndian}
 use Rattle.records.proofs.Numbers.{low-high}
 use Rattle.records.proofs.Records as laws

@@ -7,11 +7,11 @@ use mathlib.Core.List.{List, [], _∷_}
 use Prim.Native.Nat.{ℕ, _+_}
 use native.Mathlib.Omega.{arith}
 use lib.Dec.{eqb}
-use Rattle.settings.specs.Settings.{emptySettings, declareCode}
-use Rattle.settings.specs.Entries.{Entry, entryOf, entryDeclared, Sized}
-use Rattle.settings.specs.declared.Settings.{Settings}
-use Rattle.settings.specs.declared.Declaration.{Declaration}
-use Rattle.settings.proofs.Theorems.{declare-accepts, declares-one, starts-with-none, empty-is-sound, declare-keeps-sound}
+use Rattle.settings_rules.specs.Settings.{emptySettings, declareCode}
+use Rattle.settings_rules.specs.Entries.{Entry, entryOf, entryDeclared, Sized}
+use Rattle.settings_rules.specs.declared.Settings.{Settings}
+use Rattle.settings_rules.specs.declared.Declaration.{Declaration}
+use Rattle.settings_rules.proofs.Theorems.{declare-accepts, declares-one, starts-with-none, empty-is-sound, declare-keeps-sound}
 use Rattle.profile_rules.specs.Profile.{inProfile, profileCode, profileCodes, rising, loadProfile}
 use Rattle.profile_rules.specs.Statements.{code10, only10}
 use Rattle.profile_rules.specs.Operations.{CodesFrom, Judges, end, code, missing, LoadRule, LoadNumbers, recordThen}

@@ -7,10 +7,10 @@ use native.Mathlib.Omega.{arith}
 use lib.ListN.{length, getD, drop}
 use lib.Dec.{eqb}
 use borrow.Author.Tests.{eqb-true, eqb-false, eq-eqb, ne-eqb, le-leb, lt-ltb, ltb-true}
-use Rattle.settings.specs.Settings.{exceedsMaximum}
-use Rattle.settings.specs.Entries.{entryOf}
-use Rattle.settings.specs.declared.Settings.{Settings}
-use Rattle.settings.proofs.Answers.{both, at-most, not-exceeding}
+use Rattle.settings_rules.specs.Settings.{exceedsMaximum}
+use Rattle.settings_rules.specs.Entries.{entryOf}
+use Rattle.settings_rules.specs.declared.Settings.{Settings}
+use Rattle.settings_rules.proofs.Answers.{both, at-most, not-exceeding}
 use Rattle.records.specs.Records.{beginsWith}
 use Rattle.profile_rules.specs.Records.{codeIn, beginsWithRecord}
 use Rattle.profile_rules.specs.Profile.{recordAnswer, answerTo, judge}

@@ -12,11 +12,11 @@ use Rattle.checksum.proofs.Bytes.{bytes-drop}
 use Rattle.message_rules.specs.Answer.{done}
 use Rattle.codes.specs.Codes.{allCodes}
 use Rattle.codes.proofs.Cases.{eq-or-ne}
-use Rattle.settings.specs.Entries.{Entry, entryOf, Sized, Sound}
-use Rattle.settings.specs.Values.{withValue, entryValue}
-use Rattle.settings.specs.declared.Settings.{Settings}
-use Rattle.settings.proofs.Answers.{at-most}
-use Rattle.settings.proofs.Values.{value-stored, value-sized, value-sound}
+use Rattle.settings_rules.specs.Entries.{Entry, entryOf, Sized, Sound}
+use Rattle.settings_rules.specs.Values.{withValue, entryValue}
+use Rattle.settings_rules.specs.declared.Settings.{Settings}
+use Rattle.settings_rules.proofs.Answers.{at-most}
+use Rattle.settings_rules.proofs.Values.{value-stored, value-sized, value-sound}
 use Rattle.profile_rules.specs.Records.{valueRecord, recordSize, valueIn}
 use Rattle.profile_rules.specs.Profile.{recordsOf, judge, stored}
 use Rattle.profile_rules.specs.Statements.{Alike}

@@ -10,11 +10,11 @@ use lib.Dec.{eqb}
 use borrow.Author.Tests.{eqb-true, ne-eqb}
 use Rattle.message_rules.specs.Answer.{done, brokenProfile}
 use Rattle.codes.specs.Codes.{allCodes}
-use Rattle.settings.specs.Settings.{exceedsMaximum}
-use Rattle.settings.specs.Entries.{entryOf, Sound}
-use Rattle.settings.specs.Values.{entryValue}
-use Rattle.settings.specs.declared.Settings.{Settings}
-use Rattle.settings.proofs.Answers.{not-exceeding}
+use Rattle.settings_rules.specs.Settings.{exceedsMaximum}
+use Rattle.settings_rules.specs.Entries.{entryOf, Sound}
+use Rattle.settings_rules.specs.Values.{entryValue}
+use Rattle.settings_rules.specs.declared.Settings.{Settings}
+use Rattle.settings_rules.proofs.Answers.{not-exceeding}
 use Rattle.profile_rules.specs.Records.{valueRecord, recordSize}
 use Rattle.profile_rules.specs.Profile.{inProfile, profileCode, profileCodes, recordsOf, profileOf, judge, judgeProfile, stored, loadAs, loadProfile}
 use Rattle.profile_rules.specs.Statements.{OneRecordEach, Alike, WrittenLoads, WrittenComesBack, LoadedWrites, LoadSetsBoth, RefusedLoadKeeps, ExtraBytesRefused, ShortProfileRefused, LoadKeepsSound}

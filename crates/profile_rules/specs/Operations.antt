@@ -6,10 +6,10 @@ use mathlib.Core.Path.{_≡_}
 use mathlib.Core.Bool.{true, false}
 use mathlib.Core.List.{List, [], _∷_}
 use lib.ListN.{length, getD, take, drop}
-use Rattle.settings.specs.Entries.{Entry, entryOf, Sized}
-use Rattle.settings.specs.Operations.{SameTiming}
-use Rattle.settings.specs.Values.{entryValue}
-use Rattle.settings.specs.declared.Settings.{Settings}
+use Rattle.settings_rules.specs.Entries.{Entry, entryOf, Sized}
+use Rattle.settings_rules.specs.Operations.{SameTiming}
+use Rattle.settings_rules.specs.Values.{entryValue}
+use Rattle.settings_rules.specs.declared.Settings.{Settings}
 use Rattle.profile_rules.specs.Profile.{profileCodes, Outcome}
 use Rattle.profile_rules.specs.declared.Loaded.{Loaded}
 

@@ -7,10 +7,10 @@ use lib.Dec.{leb, eqb}
 use Rattle.buffers.specs.Buffers.{over}
 use Rattle.message_rules.specs.Answer.{done, wrongSize, codeNotAllowed, valueTooLarge, brokenProfile}
 use Rattle.codes.specs.Codes.{allCodes}
-use Rattle.settings.specs.Settings.{exceedsMaximum}
-use Rattle.settings.specs.Entries.{Entry, entryOf}
-use Rattle.settings.specs.Values.{withValue}
-use Rattle.settings.specs.declared.Settings.{Settings}
+use Rattle.settings_rules.specs.Settings.{exceedsMaximum}
+use Rattle.settings_rules.specs.Entries.{Entry, entryOf}
+use Rattle.settings_rules.specs.Values.{withValue}
+use Rattle.settings_rules.specs.declared.Settings.{Settings}
 use Rattle.profile_rules.specs.Records.{valueRecord, recordSize, codeIn, valueIn, beginsWithRecord}
 use Rattle.profile_rules.specs.declared.Written.{Written}
 use Rattle.profile_rules.specs.declared.Loaded.{Loaded}

@@ -7,12 +7,12 @@ use lib.ListN.{length, take}
 use Rattle.checksum.specs.Bytes.{Bytes}
 use Rattle.message_rules.specs.Answer.{done, brokenProfile}
 use Rattle.codes.specs.Codes.{allCodes}
-use Rattle.settings.specs.Settings.{emptySettings, startWith, declareCode, setCode, saveAll}
-use Rattle.settings.specs.Entries.{Entry, entryOf, Sized, Sound}
-use Rattle.settings.specs.Values.{entryValue}
-use Rattle.settings.specs.declared.Settings.{Settings}
-use Rattle.settings.specs.declared.Declaration.{Declaration}
-use Rattle.settings.specs.declared.Timing.{Timing}
+use Rattle.settings_rules.specs.Settings.{emptySettings, startWith, declareCode, setCode, saveAll}
+use Rattle.settings_rules.specs.Entries.{Entry, entryOf, Sized, Sound}
+use Rattle.settings_rules.specs.Values.{entryValue}
+use Rattle.settings_rules.specs.declared.Settings.{Settings}
+use Rattle.settings_rules.specs.declared.Declaration.{Declaration}
+use Rattle.settings_rules.specs.declared.Timing.{Timing}
 use Rattle.profile_rules.specs.Records.{recordSize}
 use Rattle.profile_rules.specs.Profile.{profileCode, profileCodes, profileOf, judgeProfile, loadProfile}
 

@@ -1,7 +1,7 @@
 // The settings profile (the papers' settings sheet): its types and constants.
 // What they mean stands in specs/, and the theorems in proofs/.
 use message_rules::Position;
-use settings::Settings;
+use settings_rules::Settings;
 
 // The bytes of a record of kind 1.
 pub const RECORD_SIZE: usize = 7;

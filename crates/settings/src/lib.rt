@@ -1,7 +1,6 @@
 // The values of one device by its VCP codes, with its timing: what declaring, Get, Set and Save do with them.
 //
-// Four yes-or-no properties of each code are sets of codes, as the declared codes are.
-// So one proved test reads all five, and codes with several properties are found by whole words.
+// Each function is proved equal to its definition in settings_rules.
 use codes::Next;
 use message_rules::TABLE_CODE;
 use message_rules::answer::CODE_NOT_ALLOWED;
@@ -9,74 +8,17 @@ use message_rules::answer::DONE;
 use message_rules::answer::NOT_DECLARABLE;
 use message_rules::answer::VALUE_TOO_LARGE;
 use message_rules::fields::status_allowed;
+use settings_rules::Change;
+use settings_rules::Declaration;
+use settings_rules::Feature;
+use settings_rules::Judgement;
+use settings_rules::MOMENTARY;
+use settings_rules::Settings;
+use settings_rules::Timing;
 ghost use mathlib.Core.Path.{_≡_};
 ghost use lib.ListN.{getD};
 ghost use Rattle.codes.specs.Codes.{member, countOf, nextOf};
-ghost use Rattle.settings.specs.Settings.{emptySettings, startingSettings, startWith, exceedsMaximum, accessRefused, declarationRefused, withDeclaration, declareCode, answerToSet, judgeSet, saveAll, typeNumber, getCode};
-
-// The type of a momentary code; a kept one is 0.
-pub const MOMENTARY: u8 = 1;
-
-// The fields of a Timing reply.
-#[repr(C)]
-pub struct Timing {
-    pub status: u8,
-    pub horizontal: u16,
-    pub vertical: u16,
-}
-
-// What a device keeps for each code 0 to 255, and the three fields of its timing.
-// The timing's numbers stand between the arrays, so that fewer bytes are copied (docs/PROVING-NOTES.md).
-#[repr(C)]
-pub struct Settings {
-    pub declared: [u64; 4],
-    pub readable: [u64; 4],
-    pub writable: [u64; 4],
-    pub momentary: [u64; 4],
-    pub continuous: [u64; 4],
-    pub maximum: [u16; 256],
-    pub horizontal: u16,
-    pub saved: [u16; 256],
-    pub vertical: u16,
-    pub present: [u16; 256],
-    pub status: u8,
-}
-
-// What is said of a code when it is declared.
-#[repr(C)]
-pub struct Declaration {
-    pub code: u8,
-    pub readable: bool,
-    pub writable: bool,
-    // The type: 0 (kept) or 1 (momentary).
-    pub kind: u8,
-    pub continuous: bool,
-    pub maximum: u16,
-    pub present: u16,
-}
-
-// An answer number, with the settings afterwards.
-// The settings stand first, where they are cheaper to copy.
-pub struct Change {
-    pub settings: Settings,
-    pub answer: u8,
-}
-
-// What a Set comes to: an answer number, and whether the value becomes the present one.
-pub struct Judgement {
-    pub answer: u8,
-    pub stored: bool,
-}
-
-// The fields of a Value reply.
-pub struct Feature {
-    pub result: u8,
-    pub code: u8,
-    // The type byte.
-    pub kind: u8,
-    pub maximum: u16,
-    pub present: u16,
-}
+ghost use Rattle.settings_rules.specs.Settings.{emptySettings, startingSettings, startWith, exceedsMaximum, accessRefused, declarationRefused, withDeclaration, declareCode, answerToSet, judgeSet, withPresent, saveAll, typeNumber, getCode};
 
 // Returns settings with the timing and no code.
 fn starting(timing: Timing) -> Settings
@@ -250,7 +192,7 @@ fn above_maximum(s: Settings, code: u8, value: u16) -> bool
 }
 
 // Returns what a Set of the code to the value comes to.
-// Whoever holds the settings stores the value in them, so that they are not passed on and back.
+// The value is stored by `store`, so that the settings, which are large, are passed on only where they change.
 pub fn judge_set(s: Settings, code: u8, value: u16) -> Judgement
     ensures { λ r. ⌜ r ≡ judgeSet s code value ⌝ }
 {
@@ -277,6 +219,18 @@ pub fn judge_set(s: Settings, code: u8, value: u16) -> Judgement
         answer: answer,
         stored: true,
     }
+}
+
+// Returns the settings with another present value of a code, as a Set that is stored leaves them.
+// Only the array is taken out and changed, so that no more is copied twice.
+pub fn store(mut s: Settings, code: u8, value: u16) -> Settings
+    ensures { λ r. ⌜ r ≡ withPresent s code value ⌝ }
+{
+    let i = code as usize;
+    let mut present = s.present;
+    present[i] = value;
+    s.present = present;
+    s
 }
 
 // Returns the settings after a Save: every saved value is the present one.

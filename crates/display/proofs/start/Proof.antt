@@ -2,7 +2,7 @@
 use mathlib.Core.Path.{sym, ap, _∙_}
 use native.Mathlib.Omega.{arith}
 use borrow.Author.Tests.{ne-eqb}
-use Rattle.settings.specs.declared.Change.{Change}
+use Rattle.settings_rules.specs.declared.Change.{Change}
 use Rattle.display_rules.specs.State.{startAnswer, start}
 use Rattle.display_rules.proofs.Sound.{start-accepted}
 use borrow.Author.Needs.{needs}

@@ -5,7 +5,7 @@ use Prim.Native.Nat.{_-_, _/_, _≤_}
 use native.Mathlib.Omega.{arith}
 use lib.ListN.{length, drop}
 use borrow.Author.Needs.{needs}
-use Rattle.settings.specs.Values.{withValue}
+use Rattle.settings_rules.specs.Values.{withValue}
 use Rattle.profile_rules.specs.Records.{recordSize}
 use Rattle.profile.specs.Parts.{storedRecords}
 use Rattle.profile.proofs.Loading.{store-starts, store-turn, store-none}

@@ -2,7 +2,7 @@
 use native.Mathlib.Omega.{arith}
 use borrow.Author.Tests.{eq-eqb, ne-eqb, lt-ltb, le-ltb}
 use Rattle.message_rules.specs.Message.{tableCode}
-use Rattle.settings.specs.Settings.{declarationRefused}
+use Rattle.settings_rules.specs.Settings.{declarationRefused}
 use borrow.Author.Needs.{needs}
 use Rattle.settings.proofs.declaration_refused.Statement.{statement}
 use Rattle.settings.proofs.declaration_refused.Tie as tie

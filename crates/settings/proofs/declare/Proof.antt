@@ -1,5 +1,5 @@
 -- `declare` refuses or stores, as its definition does.
-use Rattle.settings.specs.Settings.{declareCode}
+use Rattle.settings_rules.specs.Settings.{declareCode}
 use borrow.Author.Needs.{needs}
 use Rattle.settings.proofs.declare.Statement.{statement}
 use Rattle.settings.proofs.declare.Tie as tie

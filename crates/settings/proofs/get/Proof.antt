@@ -1,7 +1,7 @@
 -- `get` shows a code that is declared and readable, and zeros of any other.
 use mathlib.Core.Path.{_≡_}
 use Rattle.codes.specs.Codes.{member}
-use Rattle.settings.specs.Settings.{getCode}
+use Rattle.settings_rules.specs.Settings.{getCode}
 use borrow.Author.Needs.{needs}
 use Rattle.settings.proofs.get.Statement.{statement}
 use Rattle.settings.proofs.get.Tie as tie

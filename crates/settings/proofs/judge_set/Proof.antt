@@ -2,7 +2,7 @@
 use mathlib.Core.Path.{_≡_}
 use borrow.Author.Tests.{eq-eqb, ne-eqb}
 use Rattle.codes.specs.Codes.{member}
-use Rattle.settings.specs.Settings.{setAnswer}
+use Rattle.settings_rules.specs.Settings.{setAnswer}
 use borrow.Author.Needs.{needs}
 use Rattle.settings.proofs.judge_set.Statement.{statement}
 use Rattle.settings.proofs.judge_set.Tie as tie

@@ -1,6 +1,6 @@
 -- `save` stores the present array whole.
 use mathlib.Core.Path.{refl}
-use Rattle.settings.specs.Settings.{saveAll}
+use Rattle.settings_rules.specs.Settings.{saveAll}
 use Rattle.settings.proofs.save.Statement.{statement}
 use Rattle.settings.proofs.save.Tie as tie
 

@@ -1,6 +1,6 @@
 -- `set_answer` tests in the order of its definition.
 use borrow.Author.Tests.{eq-eqb, ne-eqb}
-use Rattle.settings.specs.Settings.{answerToSet}
+use Rattle.settings_rules.specs.Settings.{answerToSet}
 use Rattle.settings.proofs.set_answer.Statement.{statement}
 use Rattle.settings.proofs.set_answer.Tie as tie
 

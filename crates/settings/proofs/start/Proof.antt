@@ -2,7 +2,7 @@
 use mathlib.Core.Path.{_≡_, sym, _∙_}
 use mathlib.Core.Bool.{true, false}
 use lib.Dec.{eqb}
-use Rattle.settings.specs.Settings.{reservedBits}
+use Rattle.settings_rules.specs.Settings.{reservedBits}
 use borrow.Author.Needs.{needs}
 use Rattle.settings.proofs.start.Statement.{statement}
 use Rattle.settings.proofs.start.Tie as tie

@@ -1,6 +1,6 @@
 -- `starting` has no code in any set.
 use mathlib.Core.Path.{refl}
-use Rattle.settings.specs.Settings.{startingSettings}
+use Rattle.settings_rules.specs.Settings.{startingSettings}
 use Rattle.settings.proofs.starting.Statement.{statement}
 use Rattle.settings.proofs.starting.Tie as tie
 

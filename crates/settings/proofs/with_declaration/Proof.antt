@@ -1,5 +1,5 @@
 -- `with_declaration` stores each field at the code.
-use Rattle.settings.specs.Settings.{withDeclaration}
+use Rattle.settings_rules.specs.Settings.{withDeclaration}
 use borrow.Author.Needs.{needs}
 use Rattle.settings.proofs.with_declaration.Statement.{statement}
 use Rattle.settings.proofs.with_declaration.Tie as tie

@@ -1,19 +1,15 @@
--- `display::changes::stored` meets its contract. The one present value changes.
-use Rattle.settings.specs.Settings.{withPresent}
-use mathlib.Core.Path.{refl}
+-- `display::changes::stored` meets its contract. Storing is the settings'.
+use mathlib.Core.Path.{ap}
+use Rattle.display_rules.specs.State.{withSettings}
 use borrow.Author.Needs.{needs}
 use Rattle.display.proofs.changes.stored.Statement.{statement}
 use Rattle.display.proofs.changes.stored.Tie as tie
 
-mul-present : tie.Need-mul-present
-mul-present c = search needs
-
-array-write-present : tie.Need-array-write-present
-array-write-present c = search needs
+store-requires : tie.Need-store-requires
+store-requires c κs = search needs
 
 returns : tie.Need-returns
-unfolding withPresent
-returns c = refl
+returns c = ap (withSettings (c .before .before .args .d)) (c .store .ensures)
 
 pub stored-spec : {M : Type 1} → statement M
-stored-spec = tie.close (tie.spec mul-present array-write-present returns)
+stored-spec = tie.close (tie.spec store-requires returns)

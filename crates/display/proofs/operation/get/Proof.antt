@@ -1,7 +1,7 @@
 -- `display::operation::get` meets its contract. What Get shows can always be sent.
 use mathlib.Core.Path.{_≡_}
-use Rattle.settings.specs.Settings.{getCode}
-use Rattle.settings.proofs.Theorems.{get-is-sendable}
+use Rattle.settings_rules.specs.Settings.{getCode}
+use Rattle.settings_rules.proofs.Theorems.{get-is-sendable}
 use borrow.Author.Needs.{needs}
 use Rattle.display.proofs.operation.get.Statement.{statement}
 use Rattle.display.proofs.operation.get.Tie as tie

@@ -1,7 +1,7 @@
 -- `display::operation::set` meets its contract. Judging is the settings'; where they store, the answer is 0.
 use mathlib.Core.Path.{sym, ap, _∙_}
 use borrow.Author.Tests.{ne-eqb}
-use Rattle.settings.specs.declared.Judgement.{Judgement}
+use Rattle.settings_rules.specs.declared.Judgement.{Judgement}
 use Rattle.display.proofs.Laws.{set-stored, set-kept}
 use borrow.Author.Needs.{needs}
 use Rattle.display.proofs.operation.set.Statement.{statement}

@@ -5,11 +5,11 @@
 use Prim.Native.Nat.{ℕ, _/_, _%_, _≤_, _<_}
 use mathlib.Core.Path.{_≡_}
 use mathlib.Core.Bool.{true, false}
-use Rattle.settings.specs.Settings.{startWith, declareCode, setCode, saveAll}
-use Rattle.settings.specs.Entries.{Entry, entryOf, entryPresent, entrySaved, Sized}
-use Rattle.settings.specs.declared.Timing.{Timing}
-use Rattle.settings.specs.declared.Settings.{Settings}
-use Rattle.settings.specs.declared.Declaration.{Declaration}
+use Rattle.settings_rules.specs.Settings.{startWith, declareCode, setCode, saveAll}
+use Rattle.settings_rules.specs.Entries.{Entry, entryOf, entryPresent, entrySaved, Sized}
+use Rattle.settings_rules.specs.declared.Timing.{Timing}
+use Rattle.settings_rules.specs.declared.Settings.{Settings}
+use Rattle.settings_rules.specs.declared.Declaration.{Declaration}
 
 -- the timing is as it was
 pub record SameTiming (s after : Settings) : Type 0 where

@@ -7,10 +7,10 @@ use lib.ListN.{getD, length-set}
 use lib.Dec.{eqb}
 use borrow.Author.Tests.{eqb-true}
 use Rattle.codes.specs.Codes.{allCodes}
-use Rattle.settings.specs.Entries.{Entry, entryOf, Sized, Within, Sound}
-use Rattle.settings.specs.Values.{withValue, entryValue}
-use Rattle.settings.specs.declared.Settings.{Settings}
-use Rattle.settings.proofs.Stores.{stored-at}
+use Rattle.settings_rules.specs.Entries.{Entry, entryOf, Sized, Within, Sound}
+use Rattle.settings_rules.specs.Values.{withValue, entryValue}
+use Rattle.settings_rules.specs.declared.Settings.{Settings}
+use Rattle.settings_rules.proofs.Stores.{stored-at}
 
 pub value-stored : (s : Settings) (c value : ℕ) → Sized s → c < allCodes → (d : ℕ)
     → entryOf (withValue s c value) d ≡ cond (eqb d c) (entryValue (entryOf s d) value) (entryOf s d)

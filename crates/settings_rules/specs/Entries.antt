@@ -6,9 +6,9 @@ use lib.ListN.{getD, length}
 use lib.Dec.{eqb}
 use Rattle.codes.specs.Codes.{allCodes, member}
 use Rattle.message_rules.specs.Message.{tableCode}
-use Rattle.settings.specs.Settings.{momentaryType, reservedBits}
-use Rattle.settings.specs.declared.Settings.{Settings}
-use Rattle.settings.specs.declared.Declaration.{Declaration}
+use Rattle.settings_rules.specs.Settings.{momentaryType, reservedBits}
+use Rattle.settings_rules.specs.declared.Settings.{Settings}
+use Rattle.settings_rules.specs.declared.Declaration.{Declaration}
 
 -- "declared or not, readable, writable, type (0 kept, 1 momentary), continuous or not, maximum, present, saved"
 pub record Entry : Type 0 where

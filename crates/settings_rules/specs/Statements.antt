@@ -7,11 +7,11 @@ use lib.Dec.{eqb}
 use Rattle.message_rules.specs.Answer.{done}
 use Rattle.codes.specs.Codes.{allCodes, howMany, countOf}
 use Rattle.message_rules.specs.Message.{tableCode}
-use Rattle.settings.specs.Settings.{momentaryType, startingSettings, emptySettings, startWith, declareCode, setCode, saveAll, getCode}
-use Rattle.settings.specs.Entries.{entryOf, entryDeclared, entryPresent, entrySaved, Sized, Sound}
-use Rattle.settings.specs.declared.Timing.{Timing}
-use Rattle.settings.specs.declared.Settings.{Settings}
-use Rattle.settings.specs.declared.Declaration.{Declaration}
+use Rattle.settings_rules.specs.Settings.{momentaryType, startingSettings, emptySettings, startWith, declareCode, setCode, saveAll, getCode}
+use Rattle.settings_rules.specs.Entries.{entryOf, entryDeclared, entryPresent, entrySaved, Sized, Sound}
+use Rattle.settings_rules.specs.declared.Timing.{Timing}
+use Rattle.settings_rules.specs.declared.Settings.{Settings}
+use Rattle.settings_rules.specs.declared.Declaration.{Declaration}
 
 -- ---- what is accepted
 

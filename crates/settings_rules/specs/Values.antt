@@ -1,8 +1,8 @@
 -- Document 01, "Settings sheet": loading a profile sets present and saved of a code together.
 use Prim.Native.Nat.{ℕ}
 use lib.ListN.{set}
-use Rattle.settings.specs.Entries.{Entry}
-use Rattle.settings.specs.declared.Settings.{Settings}
+use Rattle.settings_rules.specs.Entries.{Entry}
+use Rattle.settings_rules.specs.declared.Settings.{Settings}
 
 -- the settings with another value of one code, present and saved
 unfoldable pub withValue : Settings → ℕ → ℕ → Settings

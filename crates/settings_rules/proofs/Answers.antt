@@ -10,9 +10,9 @@ use borrow.Author.Tests.{ltb-false, le-ltb}
 use Rattle.message_rules.specs.Answer.{done, codeNotAllowed, valueTooLarge}
 use Rattle.codes.specs.Codes.{member}
 use Rattle.message_rules.specs.Message.{tableCode}
-use Rattle.settings.specs.Settings.{momentaryType, exceedsMaximum, accessRefused, declarationRefused, declareCode, answerToSet, setAnswer}
-use Rattle.settings.specs.declared.Settings.{Settings}
-use Rattle.settings.specs.declared.Declaration.{Declaration}
+use Rattle.settings_rules.specs.Settings.{momentaryType, exceedsMaximum, accessRefused, declarationRefused, declareCode, answerToSet, setAnswer}
+use Rattle.settings_rules.specs.declared.Settings.{Settings}
+use Rattle.settings_rules.specs.declared.Declaration.{Declaration}
 
 -- of two tests joined, what each one is
 pub neither : (p q : Bool) → p || q ≡ false → (p ≡ false) × (q ≡ false)

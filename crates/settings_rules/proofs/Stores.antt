@@ -13,10 +13,10 @@ use Rattle.codes.specs.Codes.{allCodes, member}
 use Rattle.codes.proofs.Cases.{eq-or-ne}
 use Rattle.codes.proofs.Members.{length-assigned}
 use Rattle.codes.proofs.Theorems.{assigns-one}
-use Rattle.settings.specs.Settings.{momentaryType, withDeclaration, withPresent}
-use Rattle.settings.specs.Entries.{Entry, entryOf, entryDeclared, entryPresent, Sized}
-use Rattle.settings.specs.declared.Settings.{Settings}
-use Rattle.settings.specs.declared.Declaration.{Declaration}
+use Rattle.settings_rules.specs.Settings.{momentaryType, withDeclaration, withPresent}
+use Rattle.settings_rules.specs.Entries.{Entry, entryOf, entryDeclared, entryPresent, Sized}
+use Rattle.settings_rules.specs.declared.Settings.{Settings}
+use Rattle.settings_rules.specs.declared.Declaration.{Declaration}
 
 -- an element after a store
 pub stored-at {ℓ} : {A : Type ℓ} (l : List A) (i : ℕ) (a d : A) (j : ℕ) → i < length l → getD (set l i a) j d ≡ cond (eqb j i) a (getD l j d)

@@ -10,15 +10,15 @@ use Rattle.message_rules.specs.Answer.{done}
 use Rattle.codes.specs.Codes.{allCodes, member, noCodes, countOf}
 use Rattle.codes.proofs.Theorems.{none-inside, counts-none, counts-inserted}
 use Rattle.message_rules.specs.Message.{tableCode}
-use Rattle.settings.specs.Settings.{momentaryType, typeNumber, reservedBits, startingSettings, startWith, declarationRefused, withDeclaration, declareCode, answerToSet, setAnswer, withPresent, setCode, saveAll, getCode}
-use Rattle.settings.specs.Entries.{Entry, entryOf, entryDeclared, entryPresent, entrySaved, Within, Sound}
-use Rattle.settings.specs.Statements.{DeclareAccepts, SetAccepts, RefusedDeclareKeeps, RefusedSetKeeps, StartsWithNone, DeclaresOne, SetsOne, MomentarySetKeeps, SavesAll, GetsWhatWasSet, GetIsSendable, CountsTheDeclared, StartsAtNought, DeclaringCountsOne, StartIsSound, EmptyIsSound, DeclareKeepsSound, SetKeepsSound, SaveKeepsSound}
-use Rattle.settings.specs.declared.Timing.{Timing}
-use Rattle.settings.specs.declared.Settings.{Settings}
-use Rattle.settings.specs.declared.Declaration.{Declaration}
-use Rattle.settings.specs.declared.Feature.{Feature}
-use Rattle.settings.proofs.Answers.{both, at-most, not-exceeding, access-allowed, Accepted, not-refused, declare-accepted, Settable, set-accepted}
-use Rattle.settings.proofs.Stores.{stored-at, declaration-stored, present-stored, declaration-sized, present-sized}
+use Rattle.settings_rules.specs.Settings.{momentaryType, typeNumber, reservedBits, startingSettings, startWith, declarationRefused, withDeclaration, declareCode, answerToSet, setAnswer, withPresent, setCode, saveAll, getCode}
+use Rattle.settings_rules.specs.Entries.{Entry, entryOf, entryDeclared, entryPresent, entrySaved, Within, Sound}
+use Rattle.settings_rules.specs.Statements.{DeclareAccepts, SetAccepts, RefusedDeclareKeeps, RefusedSetKeeps, StartsWithNone, DeclaresOne, SetsOne, MomentarySetKeeps, SavesAll, GetsWhatWasSet, GetIsSendable, CountsTheDeclared, StartsAtNought, DeclaringCountsOne, StartIsSound, EmptyIsSound, DeclareKeepsSound, SetKeepsSound, SaveKeepsSound}
+use Rattle.settings_rules.specs.declared.Timing.{Timing}
+use Rattle.settings_rules.specs.declared.Settings.{Settings}
+use Rattle.settings_rules.specs.declared.Declaration.{Declaration}
+use Rattle.settings_rules.specs.declared.Feature.{Feature}
+use Rattle.settings_rules.proofs.Answers.{both, at-most, not-exceeding, access-allowed, Accepted, not-refused, declare-accepted, Settable, set-accepted}
+use Rattle.settings_rules.proofs.Stores.{stored-at, declaration-stored, present-stored, declaration-sized, present-sized}
 
 -- ---- what is accepted
 

@@ -9,14 +9,14 @@ use lib.Dec.{eqb}
 use borrow.Author.Tests.{eq-eqb, ne-eqb, eqb-true, eqb-false, lt-ltb}
 use Rattle.codes.specs.Codes.{member}
 use Rattle.codes.proofs.Theorems.{none-inside}
-use Rattle.settings.specs.Settings.{reservedBits, startingSettings, startWith, declarationRefused, declareCode, answerToSet, setAnswer, withPresent, setCode, withDeclaration, saveAll}
-use Rattle.settings.specs.Entries.{entryOf, entryDeclared, Sized}
-use Rattle.settings.specs.Operations.{SameTiming, NoCode, Starts, Declarable, DeclaredAs, MaySet, StartsAsWritten, DeclaresAsWritten, SetsAsWritten, SavesAsWritten}
-use Rattle.settings.specs.declared.Timing.{Timing}
-use Rattle.settings.specs.declared.Settings.{Settings}
-use Rattle.settings.specs.declared.Declaration.{Declaration}
-use Rattle.settings.proofs.Stores.{present-stored}
-use Rattle.settings.proofs.Theorems.{declare-accepts, set-accepts, refused-declare-keeps, refused-set-keeps, momentary-set-keeps, declares-one, sets-one, saves-all}
+use Rattle.settings_rules.specs.Settings.{reservedBits, startingSettings, startWith, declarationRefused, declareCode, answerToSet, setAnswer, withPresent, setCode, withDeclaration, saveAll}
+use Rattle.settings_rules.specs.Entries.{entryOf, entryDeclared, Sized}
+use Rattle.settings_rules.specs.Operations.{SameTiming, NoCode, Starts, Declarable, DeclaredAs, MaySet, StartsAsWritten, DeclaresAsWritten, SetsAsWritten, SavesAsWritten}
+use Rattle.settings_rules.specs.declared.Timing.{Timing}
+use Rattle.settings_rules.specs.declared.Settings.{Settings}
+use Rattle.settings_rules.specs.declared.Declaration.{Declaration}
+use Rattle.settings_rules.proofs.Stores.{present-stored}
+use Rattle.settings_rules.proofs.Theorems.{declare-accepts, set-accepts, refused-declare-keeps, refused-set-keeps, momentary-set-keeps, declares-one, sets-one, saves-all}
 
 same : (s : Settings) → SameTiming s s
 same s = record { status = refl; horizontal = refl; vertical = refl }

@@ -7,12 +7,12 @@ use Rattle.message_rules.specs.Message.{tableCode}
 pub use Rattle.message_rules.specs.Status.{reservedBits}
 use Rattle.message_rules.specs.Answer.{done, codeNotAllowed, valueTooLarge, notDeclarable}
 use Rattle.codes.specs.Codes.{allCodes, member, noCodes, inserted, assigned}
-use Rattle.settings.specs.declared.Timing.{Timing}
-use Rattle.settings.specs.declared.Settings.{Settings}
-use Rattle.settings.specs.declared.Declaration.{Declaration}
-use Rattle.settings.specs.declared.Change.{Change}
-use Rattle.settings.specs.declared.Feature.{Feature}
-use Rattle.settings.specs.declared.Judgement.{Judgement}
+use Rattle.settings_rules.specs.declared.Timing.{Timing}
+use Rattle.settings_rules.specs.declared.Settings.{Settings}
+use Rattle.settings_rules.specs.declared.Declaration.{Declaration}
+use Rattle.settings_rules.specs.declared.Change.{Change}
+use Rattle.settings_rules.specs.declared.Feature.{Feature}
+use Rattle.settings_rules.specs.declared.Judgement.{Judgement}
 
 -- "type (0 kept, 1 momentary)"
 abbrev pub momentaryType : ℕ

@@ -5,6 +5,7 @@ use day_host::actions::Action;
 use day_host::texts;
 use day_line::Frame;
 use day_line::Line;
+use ddcci_display::ddcci_display_step;
 use display_rules::Display;
 use display_rules::limits::TABLE_ROOM;
 use message_rules::limits::OUTPUT_ROOM;
@@ -51,7 +52,7 @@ pub(crate) fn deliver(mut s: Site, message: Frame) -> Site {
     let bytes = message.bytes;
     let mut table = s.table;
     let mut out = [0u8; OUTPUT_ROOM];
-    let stepped = display::step(
+    let stepped = ddcci_display_step(
         before,
         &text,
         &mut table,

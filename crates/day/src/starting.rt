@@ -10,7 +10,7 @@ use message_rules::answer;
 // Returns a display that was started, with this fragment size, at the end of a line that goes by this seed.
 fn placed(size: u16, seed: u64) -> Site {
     let text = texts::capabilities();
-    let started = display::start(declared::timing(), &text, size);
+    let started = display_start::start(declared::timing(), &text, size);
     let display = started.display;
     Site {
         display: display,
@@ -33,7 +33,7 @@ fn first_refusal(before: u8, answer: u8) -> u8 {
 // Returns the site with code number k declared.
 fn declare(mut s: Site, k: usize) -> Site {
     let before = s.display;
-    let changed = display::declare(before, declared::declaration(k));
+    let changed = display_start::declare(before, declared::declaration(k));
     let after = changed.display;
     s.display = after;
     s.answer = first_refusal(s.answer, changed.answer);

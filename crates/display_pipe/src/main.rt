@@ -1,6 +1,7 @@
 // A display on standard input and output. The format of its records stands in docs/DISPLAY-PIPE.md.
 use buffers::front;
 use buffers::octet;
+use ddcci_display::ddcci_display_step;
 use display_rules::Display;
 use display_rules::limits::TABLE_ROOM;
 use libc::STDERR_FILENO;
@@ -236,7 +237,7 @@ fn start(body: &[u8], text: &[u8]) -> Obeyed {
         horizontal: word(body, 1),
         vertical: word(body, 3),
     };
-    let started = display::start(timing, text, word(body, 5));
+    let started = display_start::start(timing, text, word(body, 5));
     let display = started.display;
     Obeyed {
         display: display,
@@ -259,7 +260,7 @@ fn declaration(body: &[u8]) -> Declaration {
 
 // Declares a code.
 fn declare(d: Display, declaration: Declaration) -> Obeyed {
-    let declared = display::declare(d, declaration);
+    let declared = display_start::declare(d, declaration);
     let display = declared.display;
     Obeyed {
         display: display,
@@ -312,7 +313,7 @@ fn obey(d: Display, kind: u8, n: usize, text: &[u8], body: &[u8]) -> Obeyed {
 // A message is obeyed here, where the display is: handed through other functions it would be copied for each.
 // Nothing says that the input ends, so the records are counted down from a number that no run uses up.
 fn main() {
-    let mut d = display::empty();
+    let mut d = display_start::empty();
     let mut table = [0u8; TABLE_ROOM];
     let mut text = [0u8; LONGEST_BODY];
     let mut body = [0u8; LONGEST_BODY];
@@ -327,7 +328,7 @@ fn main() {
         }
         if h.kind == MESSAGE {
             let whole = front(&text, wide(d.capabilities.len));
-            let stepped = display::step(d, whole, &mut table, front(&body, h.len), &mut out);
+            let stepped = ddcci_display_step(d, whole, &mut table, front(&body, h.len), &mut out);
             let after = stepped.display;
             d = after;
             if !write_answer(stepped.answer, front(&out, stepped.len)) {

@@ -13,9 +13,13 @@ use Rattle.display_rules.specs.Limits.{tableRoom}
 use Rattle.display_rules.specs.Turn.{Turn, refusal, noReply, getTurn, setTurn, saveTurn, timingTurn}
 use Rattle.display_rules.specs.Fragments.{readTurn, tableReadTurn}
 use Rattle.display_rules.specs.Table.{tableWriteTurn}
-use Rattle.message_rules.specs.declared.TextKind.the-variants.{Capabilities}
+use Rattle.message_rules.specs.declared.TextKind.{TextKind}
+use Rattle.message_rules.specs.declared.TextKind.the-variants.{Capabilities, Table}
+use Rattle.display_rules.specs.State.{startingCursor}
+use Rattle.display_rules.specs.declared.FragmentCursor.{FragmentCursor}
 use Rattle.display_rules.specs.declared.Display.{Display}
 use Rattle.display_rules.specs.declared.Found.{Found}
+use Rattle.display_rules.specs.declared.Found.the-variants.{Nothing, Fragment}
 use Rattle.display_rules.specs.declared.Stepped.{Stepped}
 
 -- the rules by message
@@ -70,13 +74,30 @@ outcome t out = record {
 unfoldable pub step : Display → (lent table message out : List ℕ) → Outcome
 step d lent table message out = outcome (turn d lent table message out) out
 
--- the outcome that a function's result and the two buffers as it left them come to
-abbrev pub left : Stepped → (table out : List ℕ) → Outcome
-left r table out = record {
-  display = r .display;
-  answer = r .answer;
-  len = r .len;
-  found = r .found;
-  table = table;
-  out = out;
-}
+-- ---- the outcome in numbers, as a function returns it
+
+-- the number of a text: 1 for the capabilities string, 2 for the table
+abbrev pub textNumber : TextKind → ℕ
+textNumber Capabilities = 1
+textNumber Table = 2
+
+-- the text and the cursor of the fragment that was sent; all is 0 where none was
+abbrev pub sentText : Found → ℕ
+sentText Nothing = 0
+sentText (Fragment k c) = textNumber k
+
+abbrev pub sentCursor : Found → FragmentCursor
+sentCursor Nothing = startingCursor
+sentCursor (Fragment k c) = c
+
+abbrev pub returned : Display → (answer length : ℕ) → Found → Stepped
+returned d k n f = record { display = d; answer = k; len = n; offset = sentCursor f .offset .0; count = sentCursor f .len; text = sentText f }
+
+-- all that a step leaves: what it returns, and every lent byte
+pub record Left : Type 0 where
+  pub stepped : Stepped
+  pub table : List ℕ
+  pub out : List ℕ
+
+abbrev pub leftBy : Outcome → Left
+leftBy o = record { stepped = returned (o .display) (o .answer) (o .len) (o .found); table = o .table; out = o .out }

@@ -55,7 +55,15 @@ pub enum Found {
     Fragment(TextKind, FragmentCursor),
 }
 
-// What a step returns.
+// The number of the text that a fragment was sent of: the capabilities string.
+pub const CAPABILITIES_SENT: u8 = 1;
+
+// The number of the text that a fragment was sent of: the table.
+pub const TABLE_SENT: u8 = 2;
+
+// What a step returns, in numbers, so that C and Rust take it as it is. What is not there is 0.
+// The numbers of a fragment stand together, which keeps the display's copies few (docs/PROVING-NOTES.md).
+#[repr(C)]
 pub struct Stepped {
     // The display afterwards.
     pub display: Display,
@@ -63,6 +71,8 @@ pub struct Stepped {
     pub answer: u8,
     // The reply's length in the output, or 0 where no reply is due.
     pub len: usize,
-    // The fragment that was sent.
-    pub found: Found,
+    // The fragment that was sent: its offset in its text, its length, and the number of its text.
+    pub offset: usize,
+    pub count: usize,
+    pub text: u8,
 }

@@ -1,4 +1,5 @@
-// The two texts of a display: which fragment a read finds and its bytes, and a write to the table.
-// Nothing here knows of messages, of settings or of a whole display.
+// The two texts of a display: which fragment a read finds and its bytes, a write to the table, and what is answered.
+// Nothing here knows of settings or of a whole display.
+pub mod answers;
 pub mod fragments;
 pub mod table;

@@ -3,11 +3,8 @@ ghost use mathlib.Core.Path.{_≡_};
 ghost use Prim.Native.Nat.{_+_, _≤_, _<_};
 ghost use lib.ListN.{length};
 ghost use Rattle.display_rules.specs.Limits.{tableRoom};
-ghost use Rattle.display_rules.specs.State.{unsent};
 ghost use Rattle.display_rules.specs.Table.{writeAnswer, lengthAfter, written};
 ghost use Rattle.display_texts.specs.Writes.{Writes};
-use display_rules::FragmentCursor;
-use display_rules::TextState;
 use display_rules::limits::TABLE_ROOM;
 use message_rules::TABLE_CODE;
 use message_rules::TextOffset;
@@ -19,19 +16,6 @@ pub struct Writing {
     pub answer: u8,
     // The table's length afterwards.
     pub len: u16,
-}
-
-// Returns the state of a text of `len` bytes of which nothing was sent.
-pub fn unsent(len: u16) -> TextState
-    ensures { λ r. ⌜ r ≡ unsent len ⌝ }
-{
-    TextState {
-        len: len,
-        cursor: FragmentCursor {
-            offset: TextOffset(0),
-            len: 0,
-        },
-    }
 }
 
 // Returns the answer to a write of n bytes at an offset of a table of `old` bytes.

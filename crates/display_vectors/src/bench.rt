@@ -2,8 +2,9 @@
 use buffers::behind;
 use buffers::front;
 use buffers::octet;
+use buffers::part;
+use ddcci_display::ddcci_display_step;
 use display_rules::Display;
-use display_texts::fragments::handed_back;
 use message_builder::Built;
 use message_builder::request;
 use message_rules::TABLE_CODE;
@@ -86,6 +87,17 @@ fn data_in(reply: &[u8], n: usize) -> &[u8] {
     &reply[0..0]
 }
 
+// Returns the fragment that a step's numbers name: a part of the text or of the table's buffer, or nothing.
+fn handed<'a>(kept: &'a [u8], buffer: &'a [u8], text: u8, offset: usize, count: usize) -> &'a [u8] {
+    if text == 1 {
+        return part(kept, offset, count);
+    }
+    if text == 2 {
+        return part(buffer, offset, count);
+    }
+    part(kept, 0, 0)
+}
+
 // Returns the bench after one step, with so many bytes of the text, of the table's buffer and of the output.
 pub(crate) fn step(mut b: Bench, lent: usize, table: usize, room: usize, message: &[u8]) -> Bench {
     let before = b.display;
@@ -93,7 +105,7 @@ pub(crate) fn step(mut b: Bench, lent: usize, table: usize, room: usize, message
     let kept = front(&bytes, lent);
     let mut buffer = b.table;
     let mut out = [FILLING; OUT_ROOM];
-    let s = display::step(
+    let s = ddcci_display_step(
         before,
         kept,
         front_mut(&mut buffer, table),
@@ -101,9 +113,11 @@ pub(crate) fn step(mut b: Bench, lent: usize, table: usize, room: usize, message
         front_mut(&mut out, room),
     );
     let after = s.display;
-    let found = s.found;
     b.display = after;
-    b.handed = check::same(handed_back(kept, &buffer, found), data_in(&out, s.len));
+    b.handed = check::same(
+        handed(kept, &buffer, s.text, s.offset, s.count),
+        data_in(&out, s.len),
+    );
     b.table = buffer;
     b.out = out;
     b.len = s.len;

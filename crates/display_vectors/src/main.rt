@@ -96,7 +96,7 @@ fn started(given: &[u8]) -> Changed {
         vertical: word(given, 3),
     };
     let bytes = bench::text();
-    display::start(timing, front(&bytes, wide(word(given, 7))), word(given, 5))
+    display_start::start(timing, front(&bytes, wide(word(given, 7))), word(given, 5))
 }
 
 // Returns the length of the capabilities string of a display that a row starts; one that was refused has none.
@@ -129,7 +129,7 @@ fn declaration(given: &[u8]) -> Declaration {
 // Returns the bench with the code declared that a row names.
 fn declare(mut b: Bench, given: &[u8], due: &[u8]) -> Bench {
     let before = b.display;
-    let s = display::declare(before, declaration(given));
+    let s = display_start::declare(before, declaration(given));
     let display = s.display;
     b.display = display;
     answered(b, s.answer, given, due)
@@ -262,7 +262,7 @@ fn main() {
     let mut input = [0u8; INPUT_ROOM];
     let got = io::read_full(STDIN_FILENO, &mut input);
     let first = Bench {
-        display: display::empty(),
+        display: display_start::empty(),
         text: 0,
         table: [0u8; TABLE_BUFFER],
         out: [FILLING; OUT_ROOM],

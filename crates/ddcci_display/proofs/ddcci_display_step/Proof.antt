@@ -1,6 +1,6 @@
--- `ddcci_display::ddcci_display_step` meets its contract. What is pending is carried out, case by case, as `stepped` says.
+-- `ddcci_display::ddcci_display_step` meets its contract. What is pending is carried out, case by case, as `carried` says.
 use mathlib.Core.Path.{ap}
-use Rattle.ddcci_display.specs.Numbers.{inNumbers}
+use Rattle.display_rules.specs.Step.{leftBy}
 use borrow.Author.Needs.{needs}
 use Rattle.ddcci_display.proofs.ddcci_display_step.Statement.{statement}
 use Rattle.ddcci_display.proofs.ddcci_display_step.Tie as tie
@@ -24,7 +24,7 @@ same-length-2 : tie.Need-same-length-2
 same-length-2 c = search needs
 
 returns : tie.Need-returns
-returns c = rw (c .answered .ensures, c .before .stored .ensures) (ap inNumbers (rw (c .before .before .before .pending .given .1) at (c .before .before .before .before .before .before .before .before .before .prepare .ensures .comes)))
+returns c = rw (c .answered .ensures, c .before .stored .ensures) (ap leftBy (rw (c .before .before .before .pending .given .1) at (c .before .before .before .before .before .before .before .before .before .prepare .ensures .comes)))
 
 enum-told : tie.Need-enum-told
 enum-told c = search needs
@@ -42,7 +42,7 @@ same-length-4 : tie.Need-same-length-4
 same-length-4 c = search needs
 
 returns-2 : tie.Need-returns-2
-returns-2 c = rw (c .answered2 .ensures, c .before .saved .ensures) (ap inNumbers (rw (c .before .before .enum-told .given .1) at (c .before .before .before .before .before .before .before .before .prepare .ensures .comes)))
+returns-2 c = rw (c .answered2 .ensures, c .before .saved .ensures) (ap leftBy (rw (c .before .before .enum-told .given .1) at (c .before .before .before .before .before .before .before .before .prepare .ensures .comes)))
 
 enum-known-pending-2 : tie.Need-enum-known-pending-2
 enum-known-pending-2 c = search needs
@@ -57,7 +57,7 @@ same-length-6 : tie.Need-same-length-6
 same-length-6 c = search needs
 
 returns-3 : tie.Need-returns-3
-returns-3 c = rw (c .moved .ensures) (ap inNumbers (rw (c .before .before .pending2 .given .1) at (c .before .before .before .before .before .before .before .before .prepare .ensures .comes)))
+returns-3 c = rw (c .moved .ensures) (ap leftBy (rw (c .before .before .pending2 .given .1) at (c .before .before .before .before .before .before .before .before .prepare .ensures .comes)))
 
 enum-known-pending-3 : tie.Need-enum-known-pending-3
 enum-known-pending-3 c = search needs
@@ -75,7 +75,7 @@ same-length-8 : tie.Need-same-length-8
 same-length-8 c = search needs
 
 returns-4 : tie.Need-returns-4
-returns-4 c = rw (c .answered3 .ensures, c .before .written .ensures) (ap inNumbers (rw (c .before .before .before .pending3 .given .1) at (c .before .before .before .before .before .before .before .before .before .prepare .ensures .comes)))
+returns-4 c = rw (c .answered3 .ensures, c .before .written .ensures) (ap leftBy (rw (c .before .before .before .pending3 .given .1) at (c .before .before .before .before .before .before .before .before .before .prepare .ensures .comes)))
 
 enum-known-pending-4 : tie.Need-enum-known-pending-4
 enum-known-pending-4 c = search needs
@@ -90,7 +90,7 @@ same-length-10 : tie.Need-same-length-10
 same-length-10 c = search needs
 
 returns-5 : tie.Need-returns-5
-returns-5 c = rw (c .answered4 .ensures) (ap inNumbers (rw (c .before .before .pending4 .given .1) at (c .before .before .before .before .before .before .before .before .prepare .ensures .comes)))
+returns-5 c = rw (c .answered4 .ensures) (ap leftBy (rw (c .before .before .pending4 .given .1) at (c .before .before .before .before .before .before .before .before .prepare .ensures .comes)))
 
 enum-told-2 : tie.Need-enum-told-2
 enum-told-2 c = search needs
@@ -105,7 +105,7 @@ same-length-12 : tie.Need-same-length-12
 same-length-12 c = search needs
 
 returns-6 : tie.Need-returns-6
-returns-6 c = rw (c .answered5 .ensures) (ap inNumbers (rw (c .before .enum-told2 .given .1) at (c .before .before .before .before .before .before .before .prepare .ensures .comes)))
+returns-6 c = rw (c .answered5 .ensures) (ap leftBy (rw (c .before .enum-told2 .given .1) at (c .before .before .before .before .before .before .before .prepare .ensures .comes)))
 
 enum-known-pending-5 : tie.Need-enum-known-pending-5
 enum-known-pending-5 c = search needs
@@ -120,7 +120,7 @@ same-length-14 : tie.Need-same-length-14
 same-length-14 c = search needs
 
 returns-7 : tie.Need-returns-7
-returns-7 c = rw (c .answered6 .ensures) (ap inNumbers (rw (c .before .before .pending5 .given .1) at (c .before .before .before .before .before .before .before .before .prepare .ensures .comes)))
+returns-7 c = rw (c .answered6 .ensures) (ap leftBy (rw (c .before .before .pending5 .given .1) at (c .before .before .before .before .before .before .before .before .prepare .ensures .comes)))
 
 pub ddcci-display-step-spec : {M : Type 1} → statement M
 ddcci-display-step-spec =

@@ -1,0 +1,18 @@
+-- What a reply that is put into the output leaves there, and how long it is: all or nothing, as its builder says.
+use Prim.Native.Nat.{ℕ}
+use mathlib.Core.Path.{_≡_}
+use mathlib.Core.Bool.{Bool}
+use mathlib.Core.List.{List}
+use Rattle.message_builder.specs.Output.{builtAnswer, builtOutput}
+use Rattle.message_builder.specs.declared.Built.{Built}
+use Rattle.message_builder.specs.declared.Built.the-variants.{Done, Refused}
+
+-- "Where no reply is due its length is 0"
+abbrev pub builtLength : Built → ℕ
+builtLength (Done n) = n
+builtLength (Refused k) = 0
+
+-- the reply s was built where its fields are allowed and the output has its room: n is its length there, or 0
+pub record Sent (allowed : Bool) (s before after : List ℕ) (n : ℕ) : Type 0 where
+  pub counted : n ≡ builtLength (builtAnswer allowed s before)
+  pub leaves : after ≡ builtOutput allowed s before

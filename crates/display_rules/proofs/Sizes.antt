@@ -17,6 +17,7 @@ use Rattle.display_rules.specs.Turn.{refusal, accepted, noReply, bytesOf
 use Rattle.display_rules.specs.Fragments.{readTurn, tableReadTurn}
 use Rattle.display_rules.specs.Table.{writeAnswer, tableWriteTurn}
 use Rattle.display_rules.specs.Step.{turnOf, lentWell, turn, outcome, step}
+use Rattle.display_rules.specs.Kept.{Kept, stepKept}
 use Rattle.display_rules.specs.Operations.{SizeNumbers}
 use Rattle.message_rules.specs.declared.TextKind.the-variants.{Table}
 use Rattle.display_rules.specs.declared.Display.{Display}
@@ -81,26 +82,26 @@ module _ (d : Display) (lent table : List ℕ) where
 
 -- ---- the step
 
-module _ (d : Display) (lent table message out : List ℕ) where
-  judged : turnOf d lent table (decode requests toDisplay message) .answer ≡ wrongSize → ⊥
-  judged = never-1 d lent table (decode requests toDisplay message) (λ k r. requests-range toDisplay message k r .0)
+module _ (now : Kept) (message out : List ℕ) where
+  judged : turnOf (now .display) (now .text) (now .table) (decode requests toDisplay message) .answer ≡ wrongSize → ⊥
+  judged = never-1 (now .display) (now .text) (now .table) (decode requests toDisplay message) (λ k r. requests-range toDisplay message k r .0)
 
-  refused-1 : step d lent table message out .answer ≡ wrongSize → step d lent table message out ≡ outcome (refusal wrongSize d table noReply) out
+  refused-1 : stepKept now message out .answer ≡ wrongSize → stepKept now message out ≡ outcome (refusal wrongSize (now .display) (now .table) noReply) out
   unfolding step turn
-  refused-1 = go (lentWell d (length lent) (length table) (length out)) refl
+  refused-1 = go (lentWell (now .display) (length (now .text)) (length (now .table)) (length out)) refl
     where
-      go : (t : Bool) → lentWell d (length lent) (length table) (length out) ≡ t → step d lent table message out .answer ≡ wrongSize
-          → step d lent table message out ≡ outcome (refusal wrongSize d table noReply) out
+      go : (t : Bool) → lentWell (now .display) (length (now .text)) (length (now .table)) (length out) ≡ t → stepKept now message out .answer ≡ wrongSize
+          → stepKept now message out ≡ outcome (refusal wrongSize (now .display) (now .table) noReply) out
       go true w e = absurd (judged (rw w at e))
       go false w e = rw w
 
-pub size-numbers : SizeNumbers step
+pub size-numbers : SizeNumbers stepKept
 unfolding step turn
-size-numbers d lent table message out = record {
+size-numbers now message out = record {
   output = λ h. rw (lt-leb 38 (length out) h);
-  table = λ h. rw (ne-eqb (length table) 1024 h, and-false (leb 38 (length out)));
-  text = λ h. rw (ne-eqb (length lent) (d .capabilities .len) h, and-false (eqb (length table) 1024), and-false (leb 38 (length out)));
-  otherwise = λ w e. judged d lent table message out (rw (lent-well d lent table out w) at e);
-  stays = λ e. rw (refused-1 d lent table message out e) (record { display = refl; table = refl });
-  reply = λ e. rw (refused-1 d lent table message out e) (record { len = refl; bytes = refl; found = refl });
+  table = λ h. rw (ne-eqb (length (now .table)) 1024 h, and-false (leb 38 (length out)));
+  text = λ h. rw (ne-eqb (length (now .text)) (now .display .capabilities .len) h, and-false (eqb (length (now .table)) 1024), and-false (leb 38 (length out)));
+  otherwise = λ w e. judged now message out (rw (lent-well now out w) at e);
+  stays = λ e. rw (refused-1 now message out e) (record { display = refl; table = refl });
+  reply = λ e. rw (refused-1 now message out e) (record { len = refl; bytes = refl; found = refl });
 }

@@ -1,4 +1,5 @@
--- A list of exchanges between a host and a display that conforms is a course (`is-course`), so demand 3 holds of the two ends of this build (`both-ends`).
+-- A list of exchanges between a host and a display that conforms is a course (`is-course`), so demand 3 holds of the
+-- two ends of this build (`both-ends`).
 -- Assumes nothing.
 use Prim.Native.Nat.{ℕ, _≤_, _<_}
 use mathlib.Core.Path.{_≡_, refl, ap, sym, _∙_, subst, subst₂}

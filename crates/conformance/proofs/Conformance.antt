@@ -27,7 +27,8 @@ use Rattle.transfer_rules.specs.Conforming.{offsetSet, SizeAllowed, MovesTo, re
 use Rattle.transfer_rules.specs.Fragment.{requestMessage, fragmentMessage}
 use Rattle.conformance.specs.Conformance.{held, Acts, Conforms}
 
--- "1 to 32 and at most the bytes left from o, but 0 when none are left": the lesser of the fragment size and what is left is one
+-- "1 to 32 and at most the bytes left from o, but 0 when none are left": the lesser of the fragment size and what is
+-- left is one
 size-allowed : (p left s : ℕ) → 1 ≤ p → p ≤ mostFragment → s ≡ lesser p left → SizeAllowed left s
 size-allowed p left s low high e = go (ltb p left) refl e
   where

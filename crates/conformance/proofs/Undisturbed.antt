@@ -1,4 +1,5 @@
--- A wire that loses and changes nothing: the list of exchanges is made one at a time, each with the display's own step and its own reply, by transfer_rules' invariant `Kept`.
+-- A wire that loses and changes nothing: the list of exchanges is made one at a time, each with the display's own
+-- step and its own reply, by transfer_rules' invariant `Kept`.
 -- Assumes nothing.
 use Prim.Native.Nat.{ℕ, zero, suc, _≤_, _<_}
 use mathlib.Core.Path.{_≡_, refl, ap, ap₂, sym, _∙_, subst}

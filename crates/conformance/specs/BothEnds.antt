@@ -1,4 +1,5 @@
--- Demand 3 (document 01, "The read run") of the two ends of this build together, since its display is a conforming one (Conformance.antt).
+-- Demand 3 (document 01, "The read run") of the two ends of this build together, since its display is a conforming
+-- one (Conformance.antt).
 -- Over any three calls of a host and any rule for a display's steps.
 use Prim.Native.Nat.{ℕ, suc, _≤_, _<_}
 use mathlib.Core.Path.{_≡_}
@@ -27,15 +28,17 @@ abbrev pub turnOf : TextKind → ℕ → Outcome → Turn
 turnOf k q o = acts q (held (cursorOf k (o .display))) (take (o .len) (o .out))
 
 module _ (c : Calls) (step : StepRule) (k : TextKind) where
-  -- "Each exchange feeds it only the request that asking returned, or nothing": from what is kept to what the turn leaves of it
+  -- "Each exchange feeds it only the request that asking returned, or nothing": from what is kept before the turn to
+  -- what is kept after it
   pub data DisplayTurn (w : World) (e : Exchange) (now : Kept) : Kept → Type 0 where
     missed : e .turn ≡ ignores → DisplayTurn w e now now
     -- the display's step on the very request that was sent, with buffers of the right sizes
     stepped : (q : ℕ) (out : List ℕ) → sent c w e ≡ some (requestMessage k q) → q < 65536 → RightSizes now out →
         e .turn ≡ turnOf k q (step now (requestMessage k q) out) → DisplayTurn w e now (keptAfter now (step now (requestMessage k q) out))
 
-  -- A list of exchanges between the two ends, of which n are corrupted: as `Course`, but each turn is the display's own. Between exchanges the display may act on
-  -- any message that is neither a request for this text nor a write to it, a code may be declared, and a profile loaded.
+  -- A list of exchanges between the two ends, of which n are corrupted: as `Course`, but each turn is the display's
+  -- own. Between exchanges the display may act on any message that is neither a request for this text nor a write to
+  -- it, a code may be declared, and a profile loaded.
   pub data Between : Kept → World → List Exchange → ℕ → Type 0 where
     ended : {now : Kept} {w : World} → Between now w [] 0
     answered : {now next : Kept} {w : World} {e : Exchange} {es : List Exchange} {n : ℕ} → Bytes (e .came) →
@@ -56,7 +59,8 @@ IsCourse step =
     (c : Calls) (k : TextKind) (now : Kept) (w : World) (es : List Exchange) (n : ℕ) →
     Made step (now .display) → w .cursor ≡ held (cursorOf k (now .display)) → Between c step k now w es n → Course c k (whole k now) w es n
 
--- a display that calls have made, with a capabilities string and a table's buffer of the right sizes, and a transfer of either text with an allowed budget and room for the text
+-- a display that calls have made, with a capabilities string and a table's buffer of the right sizes, and a transfer
+-- of either text with an allowed budget and room for the text
 pub record Ready (step : StepRule) (k : TextKind) (now : Kept) (out buffer : List ℕ) (budget : ℕ) : Type 0 where
   pub isMade : Made step (now .display)
   pub sizes : RightSizes now out
@@ -74,7 +78,8 @@ BothEnds c step =
     (k : TextKind) (now : Kept) (out buffer : List ℕ) (budget : ℕ) → Ready step k now out buffer budget → let s = setupOf k now buffer budget in
     (es : List Exchange) (n : ℕ) → Between c step k now (startOf c s) es n → Claims c s es n
 
--- after any such list, a request that is sent is for an offset below 65,536: the bound that `stepped` takes is always met
+-- after any such list, a request that is sent is for an offset below 65,536: the bound that `stepped` takes is always
+-- met
 abbrev pub OffsetsFit : Calls → StepRule → Type 0
 OffsetsFit c step =
     (k : TextKind) (now : Kept) (out buffer : List ℕ) (budget : ℕ) → Ready step k now out buffer budget → let s = setupOf k now buffer budget in

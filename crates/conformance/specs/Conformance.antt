@@ -28,8 +28,8 @@ pub record Acts (k : TextKind) (now : Kept) (q : ℕ) (o : Outcome) : Type 0 whe
   -- the display still holds the same text
   pub keeps : whole k (keptAfter now o) ≡ whole k now
 
--- For each of the two texts: a display that a start, declaring, steps and loading have made acts as the faithful board does, and nothing else than a request for that text,
--- or a write to it, moves its cursor or changes it.
+-- For each of the two texts: a display that a start, declaring, steps and loading have made acts as the faithful
+-- board does, and nothing else than a request for that text, or a write to it, moves its cursor or changes it.
 pub record Conforms (step : StepRule) : Type 0 where
   pub acts : (k : TextKind) (now : Kept) (out : List ℕ) (q : ℕ) → Made step (now .display) → RightSizes now out → q < 65536
       → Acts k now q (step now (requestMessage k q) out)

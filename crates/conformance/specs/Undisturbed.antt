@@ -1,4 +1,5 @@
--- The two ends on a wire that loses and changes nothing: what is supposed of a list of exchanges between them can be met, and the text is read.
+-- The two ends on a wire that loses and changes nothing: what is supposed of a list of exchanges between them can be
+-- met, and the text is read.
 use Prim.Native.Nat.{ℕ, _≤_}
 use mathlib.Core.Path.{_≡_}
 use mathlib.Core.List.{List, _++_}
@@ -12,7 +13,8 @@ use Rattle.transfer_rules.specs.Exchange.{Calls, World, Exchange, afterAll}
 use Rattle.transfer_rules.specs.Demand3.{enough, startOf}
 use Rattle.conformance.specs.BothEnds.{Between, Ready, setupOf}
 
--- there is a list of L + 1 exchanges between the two ends, none corrupted, after which the transfer is done and its buffer begins with the display's text
+-- there is a list of L + 1 exchanges between the two ends, none corrupted, after which the transfer is done and its
+-- buffer begins with the display's text
 pub record ReadWhole (c : Calls) (step : StepRule) (k : TextKind) (now : Kept) (buffer : List ℕ) (w : World) : Type 0 where
   pub exchanges : List Exchange
   pub between : Between c step k now w exchanges 0

@@ -9,6 +9,7 @@ use lib.Seq.{take-at, drop-at}
 use borrow.Author.Tests.{eq-eqb, ne-eqb, le-leb}
 use Rattle.checksum.specs.Bytes.{Bytes, more}
 use Rattle.message_rules.specs.Body.{encodeBody}
+use Rattle.message_rules.specs.Limits.{outputRoom}
 use Rattle.message_rules.specs.Message.{Request, getFeature, setFeature, timing, save, text, Reply, value, timingReply, replyBody, replies, requests, encode, Valid, null, toDisplay, toHost}
 use Rattle.message_rules.specs.declared.Direction.the-variants as way
 use Rattle.message_rules.proofs.Order.{null-read}
@@ -18,6 +19,7 @@ use Rattle.settings_rules.specs.Settings.{getCode}
 use Rattle.settings_rules.specs.Entries.{Entry, entryOf}
 use Rattle.settings_rules.specs.declared.Settings.{Settings}
 use Rattle.settings_rules.proofs.Operations.{sets-as-written, saves-as-written}
+use Rattle.display_rules.specs.Limits.{tableRoom}
 use Rattle.display_rules.specs.Turn.{Turn, refusal, accepted, bytesOf, getTurn, setTurn, saveTurn, timingTurn}
 use Rattle.display_rules.specs.Step.{obey, turn, outcome, step}
 use Rattle.display_rules.specs.Kept.{Kept, RightSizes, stepKept}
@@ -28,7 +30,7 @@ use Rattle.display_rules.proofs.Sound.{made-is-sound}
 -- ---- what a step that is lent right comes to
 
 pub lent-well : (now : Kept) (out : List ℕ) → LentRight now out → RightSizes now out
-lent-well now out w = rw (le-leb 38 (length out) (w .output), eq-eqb (length (now .table)) 1024 (w .table), eq-eqb (length (now .text)) (now .display .capabilities .len) (w .text))
+lent-well now out w = rw (le-leb outputRoom (length out) (w .output), eq-eqb (length (now .table)) tableRoom (w .table), eq-eqb (length (now .text)) (now .display .capabilities .len) (w .text))
 
 pub obeys : (now : Kept) (message out : List ℕ) (m : Request) → LentRight now out → Says message m
     → stepKept now message out ≡ outcome (obey (now .display) (now .text) (now .table) m) out

@@ -1,4 +1,5 @@
--- A refusal changes no setting, saved value, table byte, table length or cursor, and writes a null message exactly where the table of answers says so.
+-- A refusal changes no setting, saved value, table byte, table length or cursor, and writes a null message exactly
+-- where the table of answers says so.
 use mathlib.Core.Path.{_≡_, refl, ap}
 use mathlib.Core.Bool.{Bool, true, false, cond, _&&_}
 use mathlib.Core.List.{List}

@@ -1,8 +1,9 @@
--- Wrong rules for steps, and that the theorems do not hold of them: a display that refuses everything, one that stays put, one with a fixed reply, one that
--- hands no fragment back, one that sends no null message, and one that keeps a longer old table's tail.
+-- Wrong rules for steps, and that the theorems do not hold of them: a display that refuses everything, one that stays
+-- put, one with a fixed reply, one that hands no fragment back, one that sends no null message, and one that keeps a
+-- longer old table's tail.
 use mathlib.Core.Path.{_≡_, refl, ap, sym, subst}
 use mathlib.Core.List.{List, [], _∷_}
-use mathlib.Core.Bool.{true, cond}
+use mathlib.Core.Bool.{cond}
 use Prim.Native.Nat.{ℕ, _+_, _≤_}
 use native.Mathlib.Omega.{arith}
 use lib.Dec.{ltb}

@@ -1,4 +1,5 @@
--- The step answers 1 for what it is lent in a wrong size, and for nothing else: `SizeNumbers` of specs/Operations.antt.
+-- The step answers 1 for what it is lent in a wrong size, and for nothing else: `SizeNumbers` of
+-- specs/Operations.antt.
 use mathlib.Core.Path.{_≡_, refl, sym, _∙_}
 use mathlib.Core.Bool.{Bool, true, false, cond, not, _||_}
 use mathlib.Core.List.{List}
@@ -9,10 +10,12 @@ use lib.Dec.{eqb, leb}
 use borrow.Author.Tests.{eqb-true, ne-eqb, lt-leb}
 use Rattle.codes.specs.Codes.{member}
 use Rattle.message_rules.specs.Answer.{done, wrongSize, wrongField, codeNotAllowed, valueTooLarge, notWanted, textTooLong}
+use Rattle.message_rules.specs.Limits.{outputRoom}
 use Rattle.message_rules.specs.Message.{Request, getFeature, setFeature, timing, save, text, tableRead, tableWrite, requests, decode, null, toDisplay, toHost}
 use Rattle.message_rules.specs.Read.{Read, ok, refused, unless}
 use Rattle.message_rules.proofs.Order.{requests-range}
 use Rattle.settings_rules.specs.Settings.{reservedBits, exceedsMaximum, setAnswer, answerToSet, setCode, timingIn}
+use Rattle.display_rules.specs.Limits.{tableRoom}
 use Rattle.display_rules.specs.Turn.{refusal, accepted, noReply, bytesOf, timingOf, getTurn, setTurn, saveTurn, timingTurn}
 use Rattle.display_rules.specs.Fragments.{readTurn, tableReadTurn}
 use Rattle.display_rules.specs.Table.{writeAnswer, tableWriteTurn}
@@ -36,7 +39,7 @@ set-not-1 declared c writable above = go (not declared || eqb c 0xF4 || not writ
 
 write-not-1 : (c old at n : ℕ) → writeAnswer c old at n ≡ wrongSize → ⊥
 unfolding writeAnswer
-write-not-1 c old at n = go (eqb c 0xF4) (leb at old) (leb (at + n) 1024)
+write-not-1 c old at n = go (eqb c 0xF4) (leb at old) (leb (at + n) tableRoom)
   where
     go : (a b c : Bool) → unless a codeNotAllowed (unless b notWanted (unless c textTooLong done)) ≡ wrongSize → ⊥
     go false b c e = omega arith
@@ -98,9 +101,9 @@ module _ (now : Kept) (message out : List ℕ) where
 pub size-numbers : SizeNumbers stepKept
 unfolding step turn
 size-numbers now message out = record {
-  output = λ h. rw (lt-leb 38 (length out) h);
-  table = λ h. rw (ne-eqb (length (now .table)) 1024 h, and-false (leb 38 (length out)));
-  text = λ h. rw (ne-eqb (length (now .text)) (now .display .capabilities .len) h, and-false (eqb (length (now .table)) 1024), and-false (leb 38 (length out)));
+  output = λ h. rw (lt-leb outputRoom (length out) h);
+  table = λ h. rw (ne-eqb (length (now .table)) tableRoom h, and-false (leb outputRoom (length out)));
+  text = λ h. rw (ne-eqb (length (now .text)) (now .display .capabilities .len) h, and-false (eqb (length (now .table)) tableRoom), and-false (leb outputRoom (length out)));
   otherwise = λ w e. judged now message out (rw (lent-well now out w) at e);
   stays = λ e. rw (refused-1 now message out e) (record { display = refl; table = refl });
   reply = λ e. rw (refused-1 now message out e) (record { len = refl; bytes = refl; found = refl });

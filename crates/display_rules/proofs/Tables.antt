@@ -14,7 +14,6 @@ use Rattle.message_rules.specs.Read.{Read, ok, refused}
 use Rattle.message_rules.specs.Message.{tableCode}
 use Rattle.settings_rules.specs.Settings.{reservedBits, timingIn}
 use Rattle.display_rules.specs.Limits.{tableRoom}
-use Rattle.display_rules.specs.State.{cursorOf}
 use Rattle.display_rules.specs.Turn.{Turn, refusal, accepted, noReply, bytesOf, timingOf, getTurn, setTurn, saveTurn, timingTurn}
 use Rattle.display_rules.specs.Fragments.{readTurn, tableReadTurn}
 use Rattle.display_rules.specs.Table.{writeAnswer, lengthAfter, written, tableWriteTurn}

@@ -1,6 +1,6 @@
 -- The step follows the paper's sentences on Table write, and the numbers and replies of Text and Table read: the
 -- theorems of specs/Texts.antt.
-use mathlib.Core.Path.{_≡_, refl, ap, _∙_}
+use mathlib.Core.Path.{_≡_, refl}
 use mathlib.Core.Bool.{Bool, true, false, cond}
 use mathlib.Core.List.{List}
 use Prim.Native.Nat.{ℕ, _+_, _≤_, _<_}
@@ -13,6 +13,7 @@ use Rattle.buffers.proofs.Theorems.{puts-bytes}
 use Rattle.message_rules.specs.Message.{text, tableRead, tableWrite, null, toHost}
 use Rattle.message_rules.proofs.Order.{null-read}
 use Rattle.message_rules.specs.declared.TextKind.the-variants.{Capabilities, Table}
+use Rattle.display_rules.specs.Limits.{tableRoom}
 use Rattle.display_rules.specs.Turn.{refusal}
 use Rattle.display_rules.specs.Fragments.{readTurn, tableReadTurn}
 use Rattle.display_rules.specs.Table.{writeAnswer, lengthAfter, tableWriteTurn}
@@ -33,13 +34,13 @@ module _ (c old at n : ℕ) where
   unfolding writeAnswer
   gap-10 e h = rw (eq-eqb c 0xF4 e, lt-leb at old h)
 
-  long-11 : c ≡ 0xF4 → at ≤ old → 1024 < at + n → writeAnswer c old at n ≡ 11
+  long-11 : c ≡ 0xF4 → at ≤ old → tableRoom < at + n → writeAnswer c old at n ≡ 11
   unfolding writeAnswer
-  long-11 e h l = rw (eq-eqb c 0xF4 e, le-leb at old h, lt-leb (at + n) 1024 l)
+  long-11 e h l = rw (eq-eqb c 0xF4 e, le-leb at old h, lt-leb (at + n) tableRoom l)
 
-  fits-0 : c ≡ 0xF4 → at ≤ old → at + n ≤ 1024 → writeAnswer c old at n ≡ 0
+  fits-0 : c ≡ 0xF4 → at ≤ old → at + n ≤ tableRoom → writeAnswer c old at n ≡ 0
   unfolding writeAnswer
-  fits-0 e h l = rw (eq-eqb c 0xF4 e, le-leb at old h, le-leb (at + n) 1024 l)
+  fits-0 e h l = rw (eq-eqb c 0xF4 e, le-leb at old h, le-leb (at + n) tableRoom l)
 
 module _ (old at n : ℕ) where
   length-anew : at ≡ 0 → lengthAfter old at n ≡ n
@@ -60,7 +61,7 @@ module _ (old at n : ℕ) where
 
 -- ---- a write
 
-module _ (now : Kept) (out : List ℕ) (c at : ℕ) (s : List ℕ) (room : length (now .table) ≡ 1024) where
+module _ (now : Kept) (out : List ℕ) (c at : ℕ) (s : List ℕ) (room : length (now .table) ≡ tableRoom) where
   answer : ℕ
   answer = writeAnswer c (now .display .table .len) at (length s)
 

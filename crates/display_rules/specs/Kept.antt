@@ -1,5 +1,5 @@
--- What is kept from one message to the next, as one thing that statements speak of: a display, and its two texts as
--- they are lent. A coming request that lends more, or keeps more, adds a field here.
+-- What is kept from one message to the next, as the one thing that statements speak of: a display, and its two texts
+-- as they are lent. A request that keeps or lends more adds a field here.
 use Prim.Native.Nat.{ℕ}
 use mathlib.Core.Path.{_≡_}
 use mathlib.Core.Bool.{true}
@@ -23,7 +23,7 @@ pub record Kept : Type 0 where
 abbrev pub keeping : Display → (text table : List ℕ) → Kept
 keeping d text table = record { display = d; text = text; table = table }
 
--- what is lent, and the output, have the right sizes
+-- what is kept and an output have the right sizes for a step
 abbrev pub RightSizes : Kept → (out : List ℕ) → Type 0
 RightSizes now out = lentWell (now .display) (length (now .text)) (length (now .table)) (length out) ≡ true
 
@@ -33,7 +33,7 @@ RightSizes now out = lentWell (now .display) (length (now .text)) (length (now .
 abbrev pub StepRule : Type 0
 StepRule = Kept → (message out : List ℕ) → Outcome
 
--- that of Step.antt
+-- that of Step.antt, lent the text and the table that are kept
 abbrev pub stepKept : StepRule
 stepKept now message out = step (now .display) (now .text) (now .table) message out
 
@@ -56,3 +56,15 @@ load d profile = withSettings d (loadProfile (d .settings) profile .settings)
 
 abbrev pub keptLoaded : Kept → (profile : List ℕ) → Kept
 keptLoaded now profile = withDisplay now (load (now .display) profile)
+
+-- ---- a row of messages
+
+-- a message, and the output that its step is lent
+pub record Delivery : Type 0 where
+  pub message : List ℕ
+  pub out : List ℕ
+
+-- what a row leaves: each step finds display and table "as the last one left them"
+abbrev pub keptAfterRow : StepRule → Kept → List Delivery → Kept
+keptAfterRow step now [] = now
+keptAfterRow step now (m ∷ row) = keptAfterRow step (keptAfter now (step now (m .message) (m .out))) row

@@ -1,4 +1,5 @@
--- What is claimed of a display. A theorem over steps takes the rule for steps as a parameter: proofs/ proves it of Step.antt's (`stepKept`), and refutes it of wrong ones.
+-- What is claimed of a display. A theorem over steps takes the rule for steps as a parameter: proofs/ proves it of
+-- Step.antt's (`stepKept`), and refutes it of wrong ones.
 use Prim.Native.Nat.{ℕ, _+_, _-_, _≤_, _<_}
 use mathlib.Core.Path.{_≡_}
 use mathlib.Core.Logic.{_⊎_}
@@ -50,7 +51,8 @@ nullDue r k = eqb k unknownCommand || (isTableRead r && eqb k codeNotAllowed)
 abbrev pub nullBytes : List ℕ
 nullBytes = 0x6E ∷ 0x80 ∷ 0xBE ∷ []
 
--- no setting, saved value, table byte, table length or cursor is changed, and the output only where the null message is due
+-- no setting, saved value, table byte, table length or cursor is changed, and the output only where the null message
+-- is due
 pub record NothingChanged (now : Kept) (b : List ℕ) (r : Read Request) (o : Outcome) : Type 0 where
   pub display : o .display ≡ now .display
   pub table : o .table ≡ now .table
@@ -64,7 +66,8 @@ RefusalsChangeNothing step = (now : Kept) (message out : List ℕ) → (step now
 
 -- ---- displays that calls have made
 
--- by a start, refused or not, then declaring, steps and loading a profile, in any order, whatever was lent and whatever bytes the messages and the profiles were
+-- by a start, refused or not, then declaring, steps and loading a profile, in any order, whatever was lent and
+-- whatever bytes the messages and the profiles were
 pub data Made (step : StepRule) : Display → Type 0 where
   started : (t : Timing) (n p : ℕ) → Made step (start t n p .display)
   declared : {d : Display} → Made step d → (e : Declaration) → e .code < allCodes → Made step (declare d e .display)
@@ -105,13 +108,14 @@ pub record Reads (k : TextKind) (now : Kept) (out : List ℕ) (q : ℕ) (o : Out
   -- "Offset 0: the place's offset is 0."
   pub zero : q ≡ 0 → cursorOf k (o .display) .offset .0 ≡ 0
   -- "Equal to the place's offset: send that piece again."
-  pub again : (q ≡ 0 → ⊥) → q ≡ cursorOf k (now .display) .offset .0 → cursorOf k (o .display) ≡ cursorOf k (now .display)
+  pub again : let c = cursorOf k (now .display) in (q ≡ 0 → ⊥) → q ≡ c .offset .0 → cursorOf k (o .display) ≡ c
   -- "Equal to offset + length: move there."
-  pub next : q ≡ cursorOf k (now .display) .offset .0 + cursorOf k (now .display) .len → cursorOf k (o .display) .offset .0 ≡ q
+  pub next : let c = cursorOf k (now .display) in q ≡ c .offset .0 + c .len → cursorOf k (o .display) .offset .0 ≡ q
   -- "Otherwise go to 0."
-  pub other : (q ≡ cursorOf k (now .display) .offset .0 → ⊥) → (q ≡ cursorOf k (now .display) .offset .0 + cursorOf k (now .display) .len → ⊥) → cursorOf k (o .display) .offset .0 ≡ 0
+  pub other : let c = cursorOf k (now .display) in (q ≡ c .offset .0 → ⊥) → (q ≡ c .offset .0 + c .len → ⊥) → cursorOf k (o .display) .offset .0 ≡ 0
   -- "The piece is the next min(piece size, bytes left) bytes; at the end it has none."
-  pub size : let left = length (whole k now) - cursorOf k (o .display) .offset .0 in cursorOf k (o .display) .len ≡ cond (ltb (now .display .size) left) (now .display .size) left
+  pub size : let most = now .display .size in let left = length (whole k now) - cursorOf k (o .display) .offset .0 in
+      cursorOf k (o .display) .len ≡ cond (ltb most left) most left
   -- "The reply carries the place's new offset" and the bytes from there
   pub sent : take (o .len) (o .out) ≡ bytesOf (fragmentReply k (cursorOf k (o .display)) (fragmentAt (whole k now) (cursorOf k (o .display))))
   pub rest : drop (o .len) (o .out) ≡ drop (o .len) out
@@ -125,7 +129,8 @@ ReadsFollow step = (k : TextKind) (now : Kept) (out : List ℕ) (q : ℕ)
     → Made step (now .display) → RightSizes now out → q < 65536
     → Reads k now out q (step now (encode requests toDisplay (asksFor k q)) out)
 
--- the messages that move the cursor of a text or change it; a Table read or write of another code than F4 is 8, and does neither
+-- the messages that move the cursor of a text or change it; a Table read or write of another code than F4 is 8, and
+-- does neither
 abbrev pub touches : TextKind → Read Request → Bool
 touches k (ok (getFeature c)) = false
 touches k (ok (setFeature c v)) = false

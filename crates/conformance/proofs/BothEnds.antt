@@ -1,4 +1,5 @@
--- A list of exchanges between a host and a display that conforms is a course (`is-course`), so demand 3 holds of the two ends of this build (`both-ends`).
+-- A list of exchanges between a host and a display that conforms is a course (`is-course`), so demand 3 holds of the
+-- two ends of this build (`both-ends`).
 -- Assumes nothing.
 use Prim.Native.Nat.{ℕ, _≤_, _<_}
 use mathlib.Core.Path.{_≡_, refl, ap, sym, _∙_, subst, subst₂}
@@ -16,10 +17,9 @@ use Rattle.message_rules.specs.declared.TextKind.{TextKind}
 use Rattle.message_rules.specs.declared.TextKind.the-variants.{Capabilities, Table}
 use Rattle.message_rules.proofs.RoundTrip.{requests-round}
 use Rattle.display_rules.specs.State.{cursorOf}
-use Rattle.display_rules.specs.Step.{lentWell, step}
+use Rattle.display_rules.specs.Kept.{Kept, RightSizes, StepRule, stepKept, keptAfter, keptDeclared, keptLoaded}
 use Rattle.display_rules.specs.Statements as made
-use Rattle.display_rules.specs.Statements.{StepRule, Made, whole, asksFor}
-use Rattle.display_rules.specs.declared.Display.{Display}
+use Rattle.display_rules.specs.Statements.{Made, whole, asksFor, Untouched}
 use Rattle.display_rules.proofs.Tests.{lent-sizes}
 use Rattle.display_rules.proofs.Sound.{made-is-sound}
 use Rattle.display_rules.proofs.Reading.{valid}
@@ -42,75 +42,71 @@ use Rattle.conformance.proofs.Conformance.{request-is, display-conforms
 request-bytes : (k : TextKind) (q : ℕ) → q < 65536 → Bytes (requestMessage k q)
 request-bytes k q h = rw (request-is k q) (requests-round .bytes toDisplay (asksFor k q) (omega arith) (omega arith) (valid k q h))
 
-module _ (step : StepRule) (f : Conforms step) (c : Calls) (k : TextKind) (lent : List ℕ) where
+module _ (step : StepRule) (f : Conforms step) (c : Calls) (k : TextKind) where
   -- the display before an exchange: calls have made it, its cursor is the world's, and it holds the text
-  pub record Stands (text : List ℕ) (cursor : Cursor) (d : Display) (table : List ℕ) : Type 0 where
-    pub isMade : Made step d
-    pub cursorIs : cursor ≡ held (cursorOf k d)
-    pub textIs : whole k d lent table ≡ text
+  pub record Stands (text : List ℕ) (cursor : Cursor) (now : Kept) : Type 0 where
+    pub isMade : Made step (now .display)
+    pub cursorIs : cursor ≡ held (cursorOf k (now .display))
+    pub textIs : whole k now ≡ text
 
   same-act : {text text′ : List ℕ} {before before′ after′ : Cursor} {reply : List ℕ} (q : ℕ) → text ≡ text′ → before ≡ before′ →
       ConformingAct k text before q after′ reply → ConformingAct k text′ before′ q after′ reply
   same-act {after′ = a} {reply = r} q h g z = subst₂ (λ (x : List ℕ) (y : Cursor). ConformingAct k x y q a r) h g z
 
   -- its turn is a conforming display's, and leaves it so
-  pub turn-follows : (text : List ℕ) (w : World) (e : Exchange) (d d′ : Display) (table table′ : List ℕ) → Stands text (w .cursor) d table →
-      DisplayTurn c step k lent w e d table d′ table′ → Lawful c k text w e (e .turn) × Stands text (cursorAfter (w .cursor) (e .turn)) d′ table′
-  turn-follows text w e d d′ table table′ s (missed h) =
-      subst (λ (t : Turn). Lawful c k text w e t × Stands text (cursorAfter (w .cursor) t) d table) (sym h) (tt, s)
-  turn-follows text w e d d′ table table′ s (stepped q out a b l h) =
-      let z = f .acts k d lent table out q (s .isMade) l b in
-      subst (λ (t : Turn). Lawful c k text w e t × Stands text (cursorAfter (w .cursor) t) d′ table′) (sym h) (
+  pub turn-follows : (text : List ℕ) (w : World) (e : Exchange) (now next : Kept) → Stands text (w .cursor) now →
+      DisplayTurn c step k w e now next → Lawful c k text w e (e .turn) × Stands text (cursorAfter (w .cursor) (e .turn)) next
+  turn-follows text w e now next s (missed h) =
+      subst (λ (t : Turn). Lawful c k text w e t × Stands text (cursorAfter (w .cursor) t) now) (sym h) (tt, s)
+  turn-follows text w e now next s (stepped q out a b l h) =
+      let z = f .acts k now out q (s .isMade) l b in
+      subst (λ (t : Turn). Lawful c k text w e t × Stands text (cursorAfter (w .cursor) t) next) (sym h) (
         (a, same-act q (s .textIs) (sym (s .cursorIs)) (z .conforms)),
-        record { isMade = made.stepped (s .isMade) lent table (requestMessage k q) out (request-bytes k q b); cursorIs = refl; textIs = z .keeps ∙ s .textIs },
+        record { isMade = made.stepped now (s .isMade) (requestMessage k q) out (request-bytes k q b); cursorIs = refl; textIs = z .keeps ∙ s .textIs },
       )
 
-  course : (text : List ℕ) (d : Display) (table : List ℕ) (w : World) (es : List Exchange) (n : ℕ) → Stands text (w .cursor) d table →
-      Between c step k lent d table w es n → Course c k text w es n
+  -- what leaves the text and its cursor alone leaves it so
+  untouched-stands : (text : List ℕ) (cursor : Cursor) (now next : Kept) → Stands text cursor now → Made step (next .display) → Untouched k now next → Stands text cursor next
+  untouched-stands text cursor now next s m z = record { isMade = m; cursorIs = s .cursorIs ∙ ap held (sym (z .0)); textIs = z .1 ∙ s .textIs }
+
+  course : (text : List ℕ) (now : Kept) (w : World) (es : List Exchange) (n : ℕ) → Stands text (w .cursor) now → Between c step k now w es n → Course c k text w es n
   unfolding after
-  course text d table w es n s ended = over.ended
-  course text d table w es n s (answered {d′ = d′} {table′ = table′} {e = e} {es = rest} b t o r x) =
-      let z = turn-follows text w e d d′ table table′ s t in
-      over.answered (record { bytes = b; lawful = z .0 }) o r (course text d′ table′ (after c w e) rest n (z .1) x)
-  course text d table w es n s (corrupted {d′ = d′} {table′ = table′} {e = e} {es = rest} {n = i} b t o x) =
-      let z = turn-follows text w e d d′ table table′ s t in
-      over.corrupted (record { bytes = b; lawful = z .0 }) o (course text d′ table′ (after c w e) rest i (z .1) x)
-  course text d table w es n s (closed {d′ = d′} {table′ = table′} {e = e} {es = rest} b t o x) =
-      let z = turn-follows text w e d d′ table table′ s t in
-      over.closed (record { bytes = b; lawful = z .0 }) o (course text d′ table′ (after c w e) rest n (z .1) x)
-  course text d table w es n s (others message out b h x) =
-      let z = f .others k d lent table message out h in
-      course text _ _ w es n
-      (record { isMade = made.stepped (s .isMade) lent table message out b; cursorIs = s .cursorIs ∙ ap held (sym (z .0)); textIs = z .1 ∙ s .textIs }) x
-  course text d table w es n s (declares y b x) =
-      let z = f .declaring k d y lent table in
-      course text _ _ w es n
-      (record { isMade = made.declared (s .isMade) y b; cursorIs = s .cursorIs ∙ ap held (sym (z .0)); textIs = z .1 ∙ s .textIs }) x
-  course text d table w es n s (loads profile x) =
-      let z = f .loading k d profile lent table in
-      course text _ _ w es n
-      (record { isMade = made.loaded (s .isMade) profile; cursorIs = s .cursorIs ∙ ap held (sym (z .0)); textIs = z .1 ∙ s .textIs }) x
+  course text now w es n s ended = over.ended
+  course text now w es n s (answered {next = next} {e = e} {es = rest} b t o r x) =
+      let z = turn-follows text w e now next s t in
+      over.answered (record { bytes = b; lawful = z .0 }) o r (course text next (after c w e) rest n (z .1) x)
+  course text now w es n s (corrupted {next = next} {e = e} {es = rest} {n = i} b t o x) =
+      let z = turn-follows text w e now next s t in
+      over.corrupted (record { bytes = b; lawful = z .0 }) o (course text next (after c w e) rest i (z .1) x)
+  course text now w es n s (closed {next = next} {e = e} {es = rest} b t o x) =
+      let z = turn-follows text w e now next s t in
+      over.closed (record { bytes = b; lawful = z .0 }) o (course text next (after c w e) rest n (z .1) x)
+  course text now w es n s (others message out b h x) =
+      let next : Kept = keptAfter now (step now message out) in
+      course text next w es n (untouched-stands text (w .cursor) now next s (made.stepped now (s .isMade) message out b) (f .others k now message out h)) x
+  course text now w es n s (declares y b x) =
+      let next : Kept = keptDeclared now y in
+      course text next w es n (untouched-stands text (w .cursor) now next s (made.declared (s .isMade) y b) (f .declaring k now y)) x
+  course text now w es n s (loads profile x) =
+      let next : Kept = keptLoaded now profile in
+      course text next w es n (untouched-stands text (w .cursor) now next s (made.loaded (s .isMade) profile) (f .loading k now profile)) x
 
 -- the display's text is at most 4,096 bytes
-text-small : (k : TextKind) (d : Display) (lent table out : List ℕ) → Made step d → lentWell d (length lent) (length table) (length out) ≡ true →
-    length (whole k d lent table) ≤ longestText
-text-small Capabilities d lent table out m w =
-    omega (arith, lent-sizes d (length lent) (length table) (length out) w .text, made-is-sound d m .text)
-text-small Table d lent table out m w = omega (arith, length-take (d .table .len) table, made-is-sound d m .room)
+text-small : (k : TextKind) (now : Kept) (out : List ℕ) → Made stepKept (now .display) → RightSizes now out → length (whole k now) ≤ longestText
+text-small Capabilities now out m w =
+    omega (arith, lent-sizes (now .display) (length (now .text)) (length (now .table)) (length out) w .text, made-is-sound (now .display) m .text)
+text-small Table now out m w = omega (arith, length-take (now .display .table .len) (now .table), made-is-sound (now .display) m .room)
 
-pub is-course : IsCourse step
-is-course c k d lent table w es n m h x =
-    course step display-conforms c k lent (whole k d lent table) d table w es n (record { isMade = m; cursorIs = h; textIs = refl }) x
+pub is-course : IsCourse stepKept
+is-course c k now w es n m h x = course stepKept display-conforms c k (whole k now) now w es n (record { isMade = m; cursorIs = h; textIs = refl }) x
 
 -- what demand 3 supposes
-pub supposed-of : (k : TextKind) (d : Display) (lent table out buffer : List ℕ) (budget : ℕ) → Ready step k d lent table out buffer budget → Supposed (setupOf k d lent table buffer budget)
-supposed-of k d lent table out buffer budget r =
-    record { bytes = r .bytes; small = text-small k d lent table out (r .isMade) (r .sizes); fits = r .fits; allowed = r .allowed }
+pub supposed-of : (k : TextKind) (now : Kept) (out buffer : List ℕ) (budget : ℕ) → Ready stepKept k now out buffer budget → Supposed (setupOf k now buffer budget)
+supposed-of k now out buffer budget r = record { bytes = r .bytes; small = text-small k now out (r .isMade) (r .sizes); fits = r .fits; allowed = r .allowed }
 
-pub both-ends : BothEnds rules step
-both-ends k d lent table out buffer budget r es n x =
-    demand3 (setupOf k d lent table buffer budget) (supposed-of k d lent table out buffer budget r) es n
-    (is-course rules k d lent table _ es n (r .isMade) refl x)
+pub both-ends : BothEnds rules stepKept
+both-ends k now out buffer budget r es n x =
+    demand3 (setupOf k now buffer budget) (supposed-of k now out buffer budget r) es n (is-course rules k now _ es n (r .isMade) refl x)
 
 -- ---- the offsets of requests
 
@@ -132,14 +128,14 @@ sent-reached t output k q h = go (isOpen t && leb outputRoom (length output)) (s
         same-offset (t .kind) k (t .reached .0) q i
     go false e = cc
 
-pub offsets-fit : OffsetsFit rules step
-offsets-fit k d lent table out buffer budget r es n x e q h =
-    let w : World = over.afterAll rules (startOf rules (setupOf k d lent table buffer budget)) es in
-    let c = both-ends k d lent table out buffer budget r es n x .2 in
+pub offsets-fit : OffsetsFit rules stepKept
+offsets-fit k now out buffer budget r es n x e q h =
+    let w : World = over.afterAll rules (startOf rules (setupOf k now buffer budget)) es in
+    let c = both-ends k now out buffer budget r es n x .2 in
     omega (
       arith,
       sent-reached (w .transfer) (e .output) k q h,
       c .reached,
-      first-le (w .accepted) (whole k d lent table) (c .first),
-      text-small k d lent table out (r .isMade) (r .sizes),
+      first-le (w .accepted) (whole k now) (c .first),
+      text-small k now out (r .isMade) (r .sizes),
     )

@@ -20,6 +20,7 @@ use Rattle.display_rules.specs.Turn.{Turn, refusal, accepted, noReply, b
 use Rattle.display_rules.specs.Fragments.{readTurn, tableReadTurn}
 use Rattle.display_rules.specs.Table.{writeAnswer, tableWriteTurn}
 use Rattle.display_rules.specs.Step.{turnOf, lentWell, turn, step}
+use Rattle.display_rules.specs.Kept.{stepKept}
 use Rattle.display_rules.specs.Statements.{NumberDeclared, DeclaringAddsOne, StepsDeclareNone}
 use Rattle.message_rules.specs.declared.TextKind.{TextKind}
 use Rattle.message_rules.specs.declared.TextKind.the-variants.{Capabilities, Table}
@@ -29,7 +30,7 @@ use Rattle.display_rules.proofs.Sound.{made-is-sound}
 pub number-declared : NumberDeclared
 number-declared d = counts-the-declared (d .settings)
 
-pub declaring-adds-one : DeclaringAddsOne step
+pub declaring-adds-one : DeclaringAddsOne stepKept
 unfolding declare
 declaring-adds-one d e m h = go (eqb (declareCode (d .settings) e .answer) done) refl
   where
@@ -92,6 +93,7 @@ same d lent table true (ok (text q)) = read-same Capabilities d lent table q
 same d lent table true (ok (tableRead c q)) = table-read-same d lent table c q
 same d lent table true (ok (tableWrite c at s)) = write-same d table c at s
 
-pub steps-declare-none : StepsDeclareNone step
+pub steps-declare-none : StepsDeclareNone stepKept
 unfolding step turn
-steps-declare-none d lent table message out = same d lent table (lentWell d (length lent) (length table) (length out)) (decode requests toDisplay message)
+steps-declare-none now message out =
+    same (now .display) (now .text) (now .table) (lentWell (now .display) (length (now .text)) (length (now .table)) (length out)) (decode requests toDisplay message)

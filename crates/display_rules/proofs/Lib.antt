@@ -1,4 +1,5 @@
 pub mod Tests
+pub mod Kept
 pub mod Refusals
 pub mod Sound
 pub mod Reading

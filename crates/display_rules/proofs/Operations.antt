@@ -9,6 +9,7 @@ use lib.Seq.{take-at, drop-at}
 use borrow.Author.Tests.{eq-eqb, ne-eqb, le-leb}
 use Rattle.checksum.specs.Bytes.{Bytes, more}
 use Rattle.message_rules.specs.Body.{encodeBody}
+use Rattle.message_rules.specs.Limits.{outputRoom}
 use Rattle.message_rules.specs.Message.{Request, getFeature, setFeature, timing, save, text, Reply, value, timingReply, replyBody, replies, requests, encode, Valid, null, toDisplay, toHost}
 use Rattle.message_rules.specs.declared.Direction.the-variants as way
 use Rattle.message_rules.proofs.Order.{null-read}
@@ -16,23 +17,25 @@ use Rattle.message_rules.proofs.Frames.{length-frame}
 use Rattle.message_rules.proofs.RoundTrip.{requests-round}
 use Rattle.settings_rules.specs.Settings.{getCode}
 use Rattle.settings_rules.specs.Entries.{Entry, entryOf}
+use Rattle.settings_rules.specs.declared.Settings.{Settings}
 use Rattle.settings_rules.proofs.Operations.{sets-as-written, saves-as-written}
+use Rattle.display_rules.specs.Limits.{tableRoom}
 use Rattle.display_rules.specs.Turn.{Turn, refusal, accepted, bytesOf, getTurn, setTurn, saveTurn, timingTurn}
-use Rattle.display_rules.specs.Step.{obey, lentWell, turn, outcome, step}
+use Rattle.display_rules.specs.Step.{obey, turn, outcome, step}
+use Rattle.display_rules.specs.Kept.{Kept, RightSizes, stepKept}
 use Rattle.display_rules.specs.Operations.{LentRight, Says, ReaderRefuses, Replies, Sends, Gets, GetsFollow, SetsFollow, SavesFollow, TimingSent}
-use Rattle.display_rules.specs.declared.Display.{Display}
 use Rattle.display_rules.specs.declared.Found.the-variants.{Nothing}
 use Rattle.display_rules.proofs.Sound.{made-is-sound}
 
 -- ---- what a step that is lent right comes to
 
-pub lent-well : (d : Display) (lent table out : List ℕ) → LentRight d lent table out → lentWell d (length lent) (length table) (length out) ≡ true
-lent-well d lent table out w = rw (le-leb 38 (length out) (w .output), eq-eqb (length table) 1024 (w .table), eq-eqb (length lent) (d .capabilities .len) (w .text))
+pub lent-well : (now : Kept) (out : List ℕ) → LentRight now out → RightSizes now out
+lent-well now out w = rw (le-leb outputRoom (length out) (w .output), eq-eqb (length (now .table)) tableRoom (w .table), eq-eqb (length (now .text)) (now .display .capabilities .len) (w .text))
 
-pub obeys : (d : Display) (lent table message out : List ℕ) (m : Request) → LentRight d lent table out → Says message m
-    → step d lent table message out ≡ outcome (obey d lent table m) out
+pub obeys : (now : Kept) (message out : List ℕ) (m : Request) → LentRight now out → Says message m
+    → stepKept now message out ≡ outcome (obey (now .display) (now .text) (now .table) m) out
 unfolding step turn
-obeys d lent table message out m w r = rw (lent-well d lent table out w, r)
+obeys now message out m w r = rw (lent-well now out w, r)
 
 pub replies-with : (n : ℕ) (bytes out : List ℕ) (t : Turn) → t .reply ≡ bytes → length bytes ≡ n → t .found ≡ Nothing → Replies n bytes out (outcome t out)
 replies-with n bytes out t e l f = rw e (record {
@@ -44,12 +47,12 @@ replies-with n bytes out t e l f = rw e (record {
 
 -- ---- what the reader refuses
 
-pub reader-refuses : ReaderRefuses step
+pub reader-refuses : ReaderRefuses stepKept
 unfolding step turn
-reader-refuses d lent table message out k w r = rw (lent-well d lent table out w, r)
+reader-refuses now message out k w r = rw (lent-well now out w, r)
     (record {
       answer = refl;
-      null = λ e. rw (eq-eqb k 6 e) (replies-with 3 _ out (refusal k d table (null toHost)) (null-read .fixed) refl refl);
+      null = λ e. rw (eq-eqb k 6 e) (replies-with 3 _ out (refusal k (now .display) (now .table) (null toHost)) (null-read .fixed) refl refl);
       silent = λ n. rw (ne-eqb k 6 n) (record { len = refl; bytes = refl; found = refl });
       stays = record { display = refl; table = refl };
     })
@@ -59,52 +62,52 @@ reader-refuses d lent table message out k w r = rw (lent-well d lent table out w
 value-length : (r c t m p : ℕ) → length (encode replies toHost (value r c t m p)) ≡ 11
 value-length r c t m p = length-frame way.Reply toHost (encodeBody (replyBody (value r c t m p)))
 
-shown : (d : Display) (table out : List ℕ) (c r k m p : ℕ) → getCode (d .settings) c ≡ record { result = r; code = c; kind = k; maximum = m; present = p }
-    → Sends 11 (value r c k m p) out (outcome (getTurn d table c) out)
+shown : (now : Kept) (out : List ℕ) (c r k m p : ℕ) → getCode (now .display .settings) c ≡ record { result = r; code = c; kind = k; maximum = m; present = p }
+    → Sends 11 (value r c k m p) out (outcome (getTurn (now .display) (now .table) c) out)
 unfolding getTurn
-shown d table out c r k m p e = replies-with 11 (bytesOf (value r c k m p)) out (getTurn d table c) (rw e) (value-length r c k m p) refl
+shown now out c r k m p e = replies-with 11 (bytesOf (value r c k m p)) out (getTurn (now .display) (now .table) c) (rw e) (value-length r c k m p) refl
 
 pub and-false : (p : Bool) → p && false ≡ false
 and-false true = refl
 and-false false = refl
 
-get-is : (d : Display) (table out : List ℕ) (c : ℕ) → Gets d table out c (outcome (getTurn d table c) out)
+get-is : (now : Kept) (out : List ℕ) (c : ℕ) → Gets now out c (outcome (getTurn (now .display) (now .table) c) out)
 unfolding getTurn getCode entryOf
-get-is d table out c =
-    let e : Entry = entryOf (d .settings) c in
+get-is now out c =
+    let e : Entry = entryOf (now .display .settings) c in
     record {
       answer = refl;
-      kept = λ x y z. shown d table out c 0 0 (e .maximum) (e .present) (rw (x, y, z));
-      momentary = λ x y z. shown d table out c 0 1 (e .maximum) (e .present) (rw (x, y, z));
-      undeclared = λ x. shown d table out c 1 0 0 0 (rw x);
-      writeOnly = λ y. shown d table out c 1 0 0 0 (rw (y, and-false));
+      kept = λ x y z. shown now out c 0 0 (e .maximum) (e .present) (rw (x, y, z));
+      momentary = λ x y z. shown now out c 0 1 (e .maximum) (e .present) (rw (x, y, z));
+      undeclared = λ x. shown now out c 1 0 0 0 (rw x);
+      writeOnly = λ y. shown now out c 1 0 0 0 (rw (y, and-false));
       stays = record { display = refl; table = refl };
     }
 
-pub gets-follow : GetsFollow step
-gets-follow d lent table message out c w r = rw (obeys d lent table message out (getFeature c) w r) (get-is d table out c)
+pub gets-follow : GetsFollow stepKept
+gets-follow now message out c w r = rw (obeys now message out (getFeature c) w r) (get-is now out c)
 
 -- ---- Set and Save
 
 code-fits : {c : ℕ} {s : List ℕ} → Bytes (c ∷ s) → c < 256
 code-fits (more h b) = h
 
-pub sets-follow : SetsFollow step
+pub sets-follow : SetsFollow stepKept
 unfolding setTurn
-sets-follow d lent table message out c v z w b r =
+sets-follow now message out c v z w b r =
     let valid : Valid requests (setFeature c v) = requests-round .valid toDisplay message (setFeature c v) b r in
-    rw (obeys d lent table message out (setFeature c v) w r) (
-      sets-as-written (d .settings) c v z (code-fits (valid .bytesFit)),
+    rw (obeys now message out (setFeature c v) w r) (
+      sets-as-written (now .display .settings) c v z (code-fits (valid .bytesFit)),
       record { display = record { capabilities = refl; table = refl; size = refl }; table = refl },
       record { len = refl; bytes = refl; found = refl },
     )
 
-pub saves-follow : SavesFollow step
+pub saves-follow : SavesFollow stepKept
 unfolding saveTurn
-saves-follow d lent table message out w r =
-    rw (obeys d lent table message out save w r) (
+saves-follow now message out w r =
+    rw (obeys now message out save w r) (
       refl,
-      saves-as-written (d .settings),
+      saves-as-written (now .display .settings),
       record { display = record { capabilities = refl; table = refl; size = refl }; table = refl },
       record { len = refl; bytes = refl; found = refl },
     )
@@ -114,14 +117,17 @@ saves-follow d lent table message out w r =
 timing-length : (s h v : ℕ) → length (encode replies toHost (timingReply s h v)) ≡ 9
 timing-length s h v = length-frame way.Reply toHost (encodeBody (replyBody (timingReply s h v)))
 
-pub timing-sent : TimingSent step
+pub timing-sent : TimingSent stepKept
 unfolding timingTurn
-timing-sent d lent table message out m w r =
-    rw (obeys d lent table message out timing w r, made-is-sound d m .settings .timing) (
+timing-sent now message out m w r =
+    rw (obeys now message out timing w r, made-is-sound (now .display) m .settings .timing) (
       refl,
-      replies-with 9 (sends d) out (accepted d table (sends d)) refl (timing-length (d .settings .status) (d .settings .horizontal) (d .settings .vertical)) refl,
+      replies-with 9 sends out (accepted (now .display) (now .table) sends) refl (timing-length (s .status) (s .horizontal) (s .vertical)) refl,
       record { display = refl; table = refl },
     )
   where
-    sends : Display → List ℕ
-    sends d = encode replies toHost (timingReply (d .settings .status) (d .settings .horizontal) (d .settings .vertical))
+    s : Settings
+    s = now .display .settings
+
+    sends : List ℕ
+    sends = encode replies toHost (timingReply (s .status) (s .horizontal) (s .vertical))

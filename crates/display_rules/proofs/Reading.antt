@@ -18,7 +18,8 @@ use Rattle.message_rules.specs.Message.{tableCode}
 use Rattle.display_rules.specs.State.{cursorAt, textState, cursorOf, withCursor}
 use Rattle.display_rules.specs.Turn.{bytesOf}
 use Rattle.display_rules.specs.Fragments.{lesser, nextOffset, nextCursor, fragmentSize, fragmentAt, foundBytes, fragmentReply, readTurn, tableReadTurn}
-use Rattle.display_rules.specs.Step.{lentWell, turn, outcome, step}
+use Rattle.display_rules.specs.Step.{turn, outcome, step}
+use Rattle.display_rules.specs.Kept.{Kept, RightSizes, stepKept, withDisplay}
 use Rattle.display_rules.specs.Statements.{Sound, Placed, whole, asksFor, Reads, ReadsFollow}
 use Rattle.message_rules.specs.declared.TextKind.{TextKind}
 use Rattle.message_rules.specs.declared.TextKind.the-variants.{Capabilities, Table}
@@ -80,18 +81,18 @@ within-front p t q l =
     let m : ℕ = lesser p (t .len - o) in
     sym (ap (take m) (drop-take o (t .len) l) ∙ take-take m (t .len - o) (drop o l) (lesser-right p (t .len - o)))
 
-same-part : (k : TextKind) (d : Display) (lent table : List ℕ) (q : ℕ) (c : FragmentCursor) → c ≡ nextCursor (fragmentSize d) (textState k d) q
-    → foundBytes lent table (Fragment k c) ≡ fragmentAt (whole k d lent table) c
-same-part Capabilities d lent table q c e = refl
-same-part Table d lent table q c e = rw e (within-front (fragmentSize d) (d .table) q table)
+same-part : (k : TextKind) (now : Kept) (q : ℕ) (c : FragmentCursor) → c ≡ nextCursor (fragmentSize (now .display)) (textState k (now .display)) q
+    → foundBytes (now .text) (now .table) (Fragment k c) ≡ fragmentAt (whole k now) c
+same-part Capabilities now q c e = refl
+same-part Table now q c e = rw e (within-front (fragmentSize (now .display)) (now .display .table) q (now .table))
 
 -- ---- a read
 
-whole-length : (k : TextKind) (d : Display) (lent table out : List ℕ) → Sound d → lentWell d (length lent) (length table) (length out) ≡ true → length (whole k d lent table) ≡ textState k d .len
-whole-length Capabilities d lent table out z w = lent-sizes d (length lent) (length table) (length out) w .text
-whole-length Table d lent table out z w =
-    let e : Lent d (length lent) (length table) (length out) = lent-sizes d (length lent) (length table) (length out) w in
-    length-take-le (d .table .len) table (omega (arith, e .table, z .room))
+whole-length : (k : TextKind) (now : Kept) (out : List ℕ) → Sound (now .display) → RightSizes now out → length (whole k now) ≡ textState k (now .display) .len
+whole-length Capabilities now out z w = lent-sizes (now .display) (length (now .text)) (length (now .table)) (length out) w .text
+whole-length Table now out z w =
+    let e : Lent (now .display) (length (now .text)) (length (now .table)) (length out) = lent-sizes (now .display) (length (now .text)) (length (now .table)) (length out) w in
+    length-take-le (now .display .table .len) (now .table) (omega (arith, e .table, z .room))
 
 placed-of : (k : TextKind) (d : Display) → Sound d → Placed (d .size) (textState k d)
 placed-of Capabilities d z = z .capabilities
@@ -101,9 +102,9 @@ cursor-set : (k : TextKind) (d : Display) (c : FragmentCursor) → cursorOf k (w
 cursor-set Capabilities d c = refl
 cursor-set Table d c = refl
 
-whole-kept : (k : TextKind) (d : Display) (lent table : List ℕ) (c : FragmentCursor) → whole k (withCursor k d c) lent table ≡ whole k d lent table
-whole-kept Capabilities d lent table c = refl
-whole-kept Table d lent table c = refl
+whole-kept : (k : TextKind) (now : Kept) (c : FragmentCursor) → whole k (withDisplay now (withCursor k (now .display) c)) ≡ whole k now
+whole-kept Capabilities now c = refl
+whole-kept Table now c = refl
 
 offset-is : (p : ℕ) (t : TextState) (q : ℕ) → nextCursor p t q .offset .0 ≡ nextOffset (t .cursor) q
 unfolding nextCursor
@@ -113,27 +114,27 @@ length-is : (f p : ℕ) (t : TextState) (q : ℕ) → f ≡ p → nextCursor f t
 unfolding nextCursor
 length-is f p t q h = rw h
 
-of-read : (k : TextKind) (d : Display) (lent table out : List ℕ) (q : ℕ) → Sound d → lentWell d (length lent) (length table) (length out) ≡ true
-    → Reads k d lent table out q (outcome (readTurn k d lent table q) out)
+of-read : (k : TextKind) (now : Kept) (out : List ℕ) (q : ℕ) → Sound (now .display) → RightSizes now out
+    → Reads k now out q (outcome (readTurn k (now .display) (now .text) (now .table) q) out)
 unfolding readTurn
-of-read k d lent table out q z w =
-    let t : TextState = textState k d in
-    let c : FragmentCursor = nextCursor (fragmentSize d) t q in
-    let e : cursorOf k (withCursor k d c) ≡ c = cursor-set k d c in
-    let o : c .offset .0 ≡ nextOffset (t .cursor) q = offset-is (fragmentSize d) t q in
-    let same : foundBytes lent table (Fragment k c) ≡ fragmentAt (whole k d lent table) c = same-part k d lent table q c refl in
-    let r : List ℕ = bytesOf (fragmentReply k c (fragmentAt (whole k d lent table) c)) in
+of-read k now out q z w =
+    let t : TextState = textState k (now .display) in
+    let c : FragmentCursor = nextCursor (fragmentSize (now .display)) t q in
+    let e : cursorOf k (withCursor k (now .display) c) ≡ c = cursor-set k (now .display) c in
+    let o : c .offset .0 ≡ nextOffset (t .cursor) q = offset-is (fragmentSize (now .display)) t q in
+    let same : foundBytes (now .text) (now .table) (Fragment k c) ≡ fragmentAt (whole k now) c = same-part k now q c refl in
+    let r : List ℕ = bytesOf (fragmentReply k c (fragmentAt (whole k now) c)) in
     record {
       answer = refl;
       zero = λ h. rw e (o ∙ next-zero (t .cursor) q h);
-      again = λ nz h. e ∙ ap (λ (p : ℕ). nextCursor p t q) (size-is d z) ∙ again-is (d .size) t q (placed-of k d z) nz h;
+      again = λ nz h. e ∙ ap (λ (p : ℕ). nextCursor p t q) (size-is (now .display) z) ∙ again-is (now .display .size) t q (placed-of k (now .display) z) nz h;
       next = λ h. rw e (o ∙ next-moves (t .cursor) q h);
       other = λ f g. rw e (o ∙ next-other (t .cursor) q f g);
-      size = rw (e, whole-length k d lent table out z w) (length-is (fragmentSize d) (d .size) t q (size-is d z));
+      size = rw (e, whole-length k now out z w) (length-is (fragmentSize (now .display)) (now .display .size) t q (size-is (now .display) z));
       sent = rw (e, same) (take-append-seam r (drop (length r) out));
-      rest = drop-append-seam (bytesOf (fragmentReply k c (foundBytes lent table (Fragment k c)))) _;
+      rest = drop-append-seam (bytesOf (fragmentReply k c (foundBytes (now .text) (now .table) (Fragment k c)))) _;
       handed = rw e same;
-      kept = whole-kept k d lent table c;
+      kept = whole-kept k now c;
     }
 
 -- ---- the request is read
@@ -146,16 +147,16 @@ valid Capabilities q h = record { bytesCount = refl; wordsCount = refl; restCoun
 valid Table q h =
     record { bytesCount = refl; wordsCount = refl; restCount = omega arith; bytesFit = bytes.more {b = tableCode} (omega arith) bytes.none; wordsFit = word-valid h; restFit = bytes.none; ruled = refl }
 
-asked : (k : TextKind) (d : Display) (lent table message out : List ℕ) (q : ℕ) → lentWell d (length lent) (length table) (length out) ≡ true
-    → decode requests toDisplay message ≡ ok (asksFor k q) → step d lent table message out ≡ outcome (readTurn k d lent table q) out
+asked : (k : TextKind) (now : Kept) (message out : List ℕ) (q : ℕ) → RightSizes now out
+    → decode requests toDisplay message ≡ ok (asksFor k q) → stepKept now message out ≡ outcome (readTurn k (now .display) (now .text) (now .table) q) out
 unfolding step turn tableReadTurn
-asked Capabilities d lent table message out q w r = rw (w, r)
-asked Table d lent table message out q w r = rw (w, r)
+asked Capabilities now message out q w r = rw (w, r)
+asked Table now message out q w r = rw (w, r)
 
 pub read-back : (m : Request) → Valid requests m → decode requests toDisplay (encode requests toDisplay m) ≡ ok m
 read-back m v = rw append-nil at (requests-round .there toDisplay m [] refl v)
 
-pub reads-follow : ReadsFollow step
-reads-follow k d lent table out q m w h =
-    rw (asked k d lent table (encode requests toDisplay (asksFor k q)) out q w (read-back (asksFor k q) (valid k q h)))
-    (of-read k d lent table out q (made-is-sound d m) w)
+pub reads-follow : ReadsFollow stepKept
+reads-follow k now out q m w h =
+    rw (asked k now (encode requests toDisplay (asksFor k q)) out q w (read-back (asksFor k q) (valid k q h)))
+    (of-read k now out q (made-is-sound (now .display) m) w)

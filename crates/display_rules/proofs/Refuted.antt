@@ -1,8 +1,9 @@
--- Wrong rules for steps, and that the theorems do not hold of them: a display that refuses everything, one that stays put, one with a fixed reply, one that
--- hands no fragment back, one that sends no null message, and one that keeps a longer old table's tail.
-use mathlib.Core.Path.{_≡_, refl, ap}
+-- Wrong rules for steps, and that the theorems do not hold of them: a display that refuses everything, one that stays
+-- put, one with a fixed reply, one that hands no fragment back, one that sends no null message, and one that keeps a
+-- longer old table's tail.
+use mathlib.Core.Path.{_≡_, refl, ap, sym, subst}
 use mathlib.Core.List.{List, [], _∷_}
-use mathlib.Core.Bool.{true, cond}
+use mathlib.Core.Bool.{cond}
 use Prim.Native.Nat.{ℕ, _+_, _≤_}
 use native.Mathlib.Omega.{arith}
 use lib.Dec.{ltb}
@@ -12,7 +13,7 @@ use Rattle.checksum.specs.Xor.{xorAll}
 use Rattle.message_rules.specs.Answer.{done, wrongField, unknownCommand}
 use Rattle.message_rules.specs.Body as body
 use Rattle.message_rules.specs.Frame.{frameAnswer, agrees, plain}
-use Rattle.message_rules.specs.Limits.{mostWritten}
+use Rattle.message_rules.specs.Limits.{mostWritten, outputRoom}
 use Rattle.message_rules.specs.Message.{tableWrite, textFragment, replyBody, requests, encode, decode, bodyRead, Valid, toDisplay, toHost}
 use Rattle.message_rules.specs.Read.{refused}
 use Rattle.message_rules.specs.declared.Direction.the-variants.{Reply}
@@ -26,8 +27,9 @@ use Rattle.display_rules.specs.State.{unsent, withTable, cursorOf, start
 use Rattle.display_rules.specs.Turn.{accepted, noReply, bytesOf}
 use Rattle.display_rules.specs.Fragments.{fragmentAt}
 use Rattle.display_rules.specs.Table.{lengthAfter, written, tableWriteTurn}
-use Rattle.display_rules.specs.Step.{lentWell, turn, outcome, step}
-use Rattle.display_rules.specs.Statements.{StepRule, RefusalsChangeNothing, nullBytes, started, stepped, asksFor, Reads, ReadsFollow, WritesGoIn}
+use Rattle.display_rules.specs.Step.{turn, outcome, step}
+use Rattle.display_rules.specs.Kept.{Kept, keeping, RightSizes, StepRule, stepKept, withDisplay}
+use Rattle.display_rules.specs.Statements.{RefusalsChangeNothing, nullBytes, started, stepped, asksFor, Reads, ReadsFollow, WritesGoIn}
 use Rattle.message_rules.specs.declared.TextKind.the-variants.{Capabilities}
 use Rattle.display_rules.specs.declared.FragmentCursor.{FragmentCursor}
 use Rattle.display_rules.specs.declared.Display.{Display}
@@ -38,36 +40,36 @@ use Rattle.display_rules.proofs.Tables.{accepts}
 -- ---- the wrong rules
 
 abbrev refusesAll : StepRule
-refusesAll d lent table message out = record { display = d; answer = wrongField; len = 0; found = Nothing; table = table; out = out }
+refusesAll now message out = record { display = now .display; answer = wrongField; len = 0; found = Nothing; table = now .table; out = out }
 
 abbrev staysPut : StepRule
-staysPut d lent table message out =
-    let o = step d lent table message out in
-    record { display = d; answer = o .answer; len = o .len; found = o .found; table = o .table; out = o .out }
+staysPut now message out =
+    let o = stepKept now message out in
+    record { display = now .display; answer = o .answer; len = o .len; found = o .found; table = o .table; out = o .out }
 
 abbrev fixedReply : StepRule
-fixedReply d lent table message out =
-    let o = step d lent table message out in
+fixedReply now message out =
+    let o = stepKept now message out in
     record { display = o .display; answer = o .answer; len = 3; found = o .found; table = o .table; out = over nullBytes out }
 
 abbrev handsNothing : StepRule
-handsNothing d lent table message out =
-    let o = step d lent table message out in
+handsNothing now message out =
+    let o = stepKept now message out in
     record { display = o .display; answer = o .answer; len = o .len; found = Nothing; table = o .table; out = o .out }
 
 abbrev silent : StepRule
-silent d lent table message out =
-    let o = step d lent table message out in
+silent now message out =
+    let o = stepKept now message out in
     record { display = o .display; answer = o .answer; len = 0; found = o .found; table = o .table; out = out }
 
 abbrev larger : ℕ → ℕ → ℕ
 larger a b = cond (ltb a b) b a
 
 abbrev keepsTail : StepRule
-keepsTail d lent table message out =
-    let o = step d lent table message out in
+keepsTail now message out =
+    let o = stepKept now message out in
     record {
-      display = withTable (o .display) (record { len = larger (d .table .len) (o .display .table .len); cursor = o .display .table .cursor });
+      display = withTable (o .display) (record { len = larger (now .display .table .len) (o .display .table .len); cursor = o .display .table .cursor });
       answer = o .answer;
       len = o .len;
       found = o .found;
@@ -90,13 +92,16 @@ abbrev table0 : List ℕ
 table0 = replicate tableRoom 0
 
 abbrev out0 : List ℕ
-out0 = replicate 38 0
+out0 = replicate outputRoom 0
+
+abbrev now2 : Kept
+now2 = keeping two text2 table0
 
 -- what the theorem would say of a read at 0
 module _ (rule : StepRule) (h : ReadsFollow rule) where
-  at-zero : Reads Capabilities two text2 table0 out0 0 (rule two text2 table0 (encode requests toDisplay (asksFor Capabilities 0)) out0)
+  at-zero : Reads Capabilities now2 out0 0 (rule now2 (encode requests toDisplay (asksFor Capabilities 0)) out0)
   unfolding start startAnswer zero-timing
-  at-zero = h Capabilities two text2 table0 out0 0 (started zero-timing 2 1) refl (omega arith)
+  at-zero = h Capabilities now2 out0 0 (started zero-timing 2 1) refl (omega arith)
 
 pub refuses-all-refuted : ReadsFollow refusesAll → ⊥
 refuses-all-refuted h = let e = at-zero refusesAll h .answer in omega (arith, e)
@@ -109,7 +114,7 @@ stays-put-refuted h =
 
 -- the cursor after the read, by the right rule
 abbrev after0 : FragmentCursor
-after0 = cursorOf Capabilities (step two text2 table0 (encode requests toDisplay (asksFor Capabilities 0)) out0 .display)
+after0 = cursorOf Capabilities (stepKept now2 (encode requests toDisplay (asksFor Capabilities 0)) out0 .display)
 
 fragment-long : (o : ℕ) (s : List ℕ) → 6 ≤ length (bytesOf (textFragment o s))
 fragment-long o s = omega (arith, length-frame Reply toHost (body.encodeBody (replyBody (textFragment o s))))
@@ -137,14 +142,14 @@ empty-is-6 : decode requests toDisplay emptyBody ≡ refused unknownCommand
 unfolding decode bodyRead frameAnswer agrees xorAll plain body.decodeBody
 empty-is-6 = refl
 
-answers-6 : step two text2 table0 emptyBody out0 .answer ≡ unknownCommand
+answers-6 : stepKept now2 emptyBody out0 .answer ≡ unknownCommand
 unfolding step turn start startAnswer zero-timing
 answers-6 = rw empty-is-6
 
 pub silent-refuted : RefusalsChangeNothing silent → ⊥
 silent-refuted h =
-    let no : step two text2 table0 emptyBody out0 .answer ≡ done → ⊥ = λ e. omega (arith, answers-6, e) in
-    let x = h two text2 table0 emptyBody out0 no .len in
+    let no : stepKept now2 emptyBody out0 .answer ≡ done → ⊥ = λ e. omega (arith, answers-6, e) in
+    let x = h now2 emptyBody out0 no .len in
     let z : _≡_ {A = ℕ} 0 3 = rw answers-6 at x in
     omega (arith, z)
 
@@ -173,13 +178,13 @@ one-valid = write-valid (7 ∷ []) (omega arith) (bytes.more {b = 7} (omega arit
 none-valid : Valid requests (tableWrite tableCode 0 [])
 none-valid = write-valid [] (omega arith) bytes.none
 
-write-is : (d : Display) (s : List ℕ) → lentWell d 2 tableRoom 38 ≡ true → Valid requests (tableWrite tableCode 0 s) → 0 + length s ≤ tableRoom
-    → step d text2 table0 (write s) out0 ≡ outcome (accepted (withTable d (unsent (length s))) (written table0 0 s) noReply) out0
+write-is : (d : Display) (s : List ℕ) → RightSizes (withDisplay now2 d) out0 → Valid requests (tableWrite tableCode 0 s) → 0 + length s ≤ tableRoom
+    → stepKept (withDisplay now2 d) (write s) out0 ≡ outcome (accepted (withTable d (unsent (length s))) (written table0 0 s) noReply) out0
 unfolding step turn tableWriteTurn lengthAfter
 write-is d s w v l = rw (w, read-back (tableWrite tableCode 0 s) v, accepts (d .table .len) 0 (length s) (omega arith) l)
 
 abbrev longer : Display
-longer = keepsTail two text2 table0 (write (7 ∷ [])) out0 .display
+longer = keepsTail now2 (write (7 ∷ [])) out0 .display
 
 longer-is : longer ≡ withTable two (unsent 1)
 unfolding start startAnswer zero-timing
@@ -188,9 +193,9 @@ longer-is = rw (write-is two (7 ∷ []) refl one-valid (omega arith))
 pub keeps-tail-refuted : WritesGoIn keepsTail → ⊥
 unfolding start startAnswer zero-timing
 keeps-tail-refuted h =
-    let w : lentWell longer 2 tableRoom 38 ≡ true = rw longer-is in
-    let made = stepped (started zero-timing 2 1) text2 table0 (write (7 ∷ [])) out0 (write-bytes (7 ∷ []) one-valid) in
-    let x = h longer text2 table0 (write []) out0 0 [] made w (read-back (tableWrite tableCode 0 []) none-valid) (omega arith) (omega arith) .1 in
+    let w : RightSizes (withDisplay now2 longer) out0 = subst (λ (d : Display). RightSizes (withDisplay now2 d) out0) (sym longer-is) refl in
+    let made = stepped now2 (started zero-timing 2 1) (write (7 ∷ [])) out0 (write-bytes (7 ∷ []) one-valid) in
+    let x = h (withDisplay now2 longer) (write []) out0 0 [] made w (read-back (tableWrite tableCode 0 []) none-valid) (omega arith) (omega arith) .1 in
     let y : take (larger (longer .table .len) 0) (written table0 0 []) ≡ [] = rw (write-is longer [] w none-valid (omega arith)) at x in
     let e : longer .table .len ≡ 1 = ap (λ (d : Display). d .table .len) longer-is in
     let z : take (larger 1 0) (written table0 0 []) ≡ [] = rw e at y in

@@ -12,6 +12,7 @@ use Rattle.checksum.specs.Bytes.{Bytes}
 use Rattle.checksum.specs.Bytes as bytes
 use Rattle.message_rules.specs.Body as body
 use Rattle.message_rules.specs.Frame.{frame}
+use Rattle.message_rules.specs.Limits.{outputRoom}
 use Rattle.message_rules.specs.Message.{Request, getFeature, setFeature, timing, save, tableWrite, value, timingReply, requests, replies, encode, Valid, toDisplay, toHost}
 use Rattle.message_rules.proofs.RoundTrip.{requests-round}
 use Rattle.settings_rules.specs.Settings.{startingSettings, withPresent, saveAll}
@@ -21,10 +22,12 @@ use Rattle.settings_rules.specs.declared.Declaration.{Declaration}
 use Rattle.settings_rules.specs.declared.Settings.{Settings}
 use Rattle.settings_rules.specs.declared.Timing.{Timing}
 use Rattle.settings_rules.proofs.Stores.{present-stored, present-sized}
+use Rattle.display_rules.specs.Limits.{tableRoom}
 use Rattle.display_rules.specs.State.{unsent, withTable, withSettings, emptyDisplay, startAnswer, start, declare}
 use Rattle.display_rules.specs.Turn.{saveTurn}
-use Rattle.display_rules.specs.Step.{Outcome, step}
-use Rattle.display_rules.specs.Statements.{StepRule, started, declared}
+use Rattle.display_rules.specs.Step.{Outcome}
+use Rattle.display_rules.specs.Kept.{Kept, keeping, StepRule, stepKept, withDisplay}
+use Rattle.display_rules.specs.Statements.{started, declared}
 use Rattle.display_rules.specs.Operations.{LentRight, Says, SameTexts, SizeNumbers, GetsFollow, SetsFollow, SavesFollow, TimingSent}
 use Rattle.display_rules.specs.Texts.{WriteNumbers}
 use Rattle.display_rules.specs.Starts.{StartRule, Fresh, StartNumbers, DeclareRule, DeclareRefuses}
@@ -49,10 +52,14 @@ abbrev text2 : List ℕ
 text2 = 1 ∷ 2 ∷ []
 
 abbrev table0 : List ℕ
-table0 = replicate 1024 0
+table0 = replicate tableRoom 0
 
 abbrev out0 : List ℕ
-out0 = replicate 38 0
+out0 = replicate outputRoom 0
+
+-- a display with what is lent beside it
+abbrev lending : Display → Kept
+lending d = keeping d text2 table0
 
 fresh-of : (h v : ℕ) → Fresh (timed h v) 2 1 (start (timed h v) 2 1 .display)
 fresh-of h v = let s = start-numbers (timed h v) 2 1 in s .started (s .otherwise refl (omega arith) (omega arith) (omega arith))
@@ -64,8 +71,8 @@ two-sized : Sized (two .settings)
 two-sized = made-is-sound two (started (timed 0 0) 2 1) .settings .sized
 
 -- what is lent fits any display with that string
-lent2 : (d : Display) → d .capabilities .len ≡ 2 → LentRight d text2 table0 out0
-lent2 d e = record { text = sym e; table = length-replicate {A = ℕ} 1024 0; output = omega (arith, length-replicate {A = ℕ} 38 0) }
+lent2 : (d : Display) → d .capabilities .len ≡ 2 → LentRight (lending d) out0
+lent2 d e = record { text = sym e; table = length-replicate {A = ℕ} tableRoom 0; output = omega (arith, length-replicate {A = ℕ} outputRoom 0) }
 
 -- code 10, of this type and at 0
 abbrev ofType : ℕ → Declaration
@@ -134,20 +141,20 @@ gap-valid = record {
 -- ---- 1: wrong sizes give 4
 
 abbrev sizes4 : StepRule
-sizes4 d lent table message out =
-    let o = step d lent table message out in
+sizes4 now message out =
+    let o = stepKept now message out in
     record { display = o .display; answer = cond (eqb (o .answer) 1) 4 (o .answer); len = o .len; found = o .found; table = o .table; out = o .out }
 
 pub sizes-4-refuted : SizeNumbers sizes4 → ⊥
 sizes-4-refuted h =
-    let right : step two [] [] [] [] .answer ≡ 1 = size-numbers two [] [] [] [] .output (omega arith) in
-    let wrong : _≡_ {A = ℕ} 4 1 = rw right at (h two [] [] [] [] .output (omega arith)) in
+    let right : stepKept (keeping two [] []) [] [] .answer ≡ 1 = size-numbers (keeping two [] []) [] [] .output (omega arith) in
+    let wrong : _≡_ {A = ℕ} 4 1 = rw right at (h (keeping two [] []) [] [] .output (omega arith)) in
     omega arith
 
 -- ---- Get: every one is answered for code 10
 
 abbrev gets10 : StepRule
-gets10 d lent table message out = step d lent table (sends (getFeature 0x10)) out
+gets10 now message out = stepKept now (sends (getFeature 0x10)) out
 
 -- the code in a Value reply
 code-in : (r c t m p : ℕ) → getD (encode replies toHost (value r c t m p)) 4 0 ≡ c
@@ -157,9 +164,9 @@ code-in r c t m p = refl
 pub gets-10-refuted : GetsFollow gets10 → ⊥
 gets-10-refuted h =
     let ten = get-valid 0x10 (omega arith) in
-    let right = gets-follow two text2 table0 (sends (getFeature 0x10)) out0 0x10 (lent2 two (two-fresh .capabilities .whole)) (said (getFeature 0x10) ten) .undeclared (none 0x10) .sent in
+    let right = gets-follow (lending two) (sends (getFeature 0x10)) out0 0x10 (lent2 two (two-fresh .capabilities .whole)) (said (getFeature 0x10) ten) .undeclared (none 0x10) .sent in
     let eleven = get-valid 0x11 (omega arith) in
-    let wrong = h two text2 table0 (sends (getFeature 0x11)) out0 0x11 (lent2 two (two-fresh .capabilities .whole)) (said (getFeature 0x11) eleven) .undeclared (none 0x11) .sent in
+    let wrong = h (lending two) (sends (getFeature 0x11)) out0 0x11 (lent2 two (two-fresh .capabilities .whole)) (said (getFeature 0x11) eleven) .undeclared (none 0x11) .sent in
     let e : _≡_ {A = ℕ} 0x10 0x11 = sym (code-in 1 0x10 0 0 0) ∙ ap (λ (s : List ℕ). getD s 4 0) (sym right ∙ wrong) ∙ code-in 1 0x11 0 0 0 in
     omega arith
   where
@@ -169,8 +176,8 @@ gets-10-refuted h =
 -- ---- Set: 8 and 9 are swapped
 
 abbrev swapped : StepRule
-swapped d lent table message out =
-    let o = step d lent table message out in
+swapped now message out =
+    let o = stepKept now message out in
     record { display = o .display; answer = cond (eqb (o .answer) 8) 9 (cond (eqb (o .answer) 9) 8 (o .answer)); len = o .len; found = o .found; table = o .table; out = o .out }
 
 pub swapped-refuted : SetsFollow swapped → ⊥
@@ -179,15 +186,15 @@ swapped-refuted h =
     let none : entryOf (two .settings) 0x10 .declared ≡ false = ap (λ (e : Entry). e .declared) (two-fresh .settings .entries 0x10) in
     let message = as-bytes (setFeature 0x10 5) set-valid in
     let says = said (setFeature 0x10 5) set-valid in
-    let right = sets-follow two text2 table0 (sends (setFeature 0x10 5)) out0 0x10 5 two-sized lent message says .0 .undeclared none in
-    let wrong : _≡_ {A = ℕ} 9 8 = rw right at (h two text2 table0 (sends (setFeature 0x10 5)) out0 0x10 5 two-sized lent message says .0 .undeclared none) in
+    let right = sets-follow (lending two) (sends (setFeature 0x10 5)) out0 0x10 5 two-sized lent message says .0 .undeclared none in
+    let wrong : _≡_ {A = ℕ} 9 8 = rw right at (h (lending two) (sends (setFeature 0x10 5)) out0 0x10 5 two-sized lent message says .0 .undeclared none) in
     omega arith
 
 -- ---- Set: a momentary value is stored
 
 abbrev stores : StepRule
-stores d lent table message out =
-    let o = step d lent table message out in
+stores now message out =
+    let o = stepKept now message out in
     record { display = withSettings (o .display) (withPresent (o .display .settings) 0x10 5); answer = o .answer; len = o .len; found = o .found; table = o .table; out = o .out }
 
 abbrev button : Display
@@ -212,8 +219,8 @@ stores-refuted h =
     let lent = lent2 button (ap (λ (t : TextState). t .len) (button-declares .1 .capabilities) ∙ two-fresh .capabilities .whole) in
     let message = as-bytes (setFeature 0x10 5) set-valid in
     let says = said (setFeature 0x10 5) set-valid in
-    let right = sets-follow button text2 table0 (sends (setFeature 0x10 5)) out0 0x10 5 button-sized lent message says .0 .momentary (entry .momentary refl) in
-    let wrong = h button text2 table0 (sends (setFeature 0x10 5)) out0 0x10 5 button-sized lent message says .0 .momentary (entry .momentary refl) in
+    let right = sets-follow (lending button) (sends (setFeature 0x10 5)) out0 0x10 5 button-sized lent message says .0 .momentary (entry .momentary refl) in
+    let wrong = h (lending button) (sends (setFeature 0x10 5)) out0 0x10 5 button-sized lent message says .0 .momentary (entry .momentary refl) in
     let same : withPresent (button .settings) 0x10 5 ≡ button .settings = ap (λ (s : Settings). withPresent s 0x10 5) (sym right) ∙ wrong in
     let five : entryOf (withPresent (button .settings) 0x10 5) 0x10 .present ≡ 5 = ap (λ (e : Entry). e .present) (present-stored (button .settings) 0x10 5 button-sized (omega arith) 0x10) ∙ present-is _ 5 in
     let e : _≡_ {A = ℕ} 5 0 = sym five ∙ ap (λ (s : Settings). entryOf s 0x10 .present) same ∙ entry .present in
@@ -238,9 +245,9 @@ oldSaved s before = record {
 }
 
 abbrev keepsSaved : StepRule
-keepsSaved d lent table message out =
-    let o = step d lent table message out in
-    record { display = withSettings (o .display) (oldSaved (o .display .settings) (d .settings)); answer = o .answer; len = o .len; found = o .found; table = o .table; out = o .out }
+keepsSaved now message out =
+    let o = stepKept now message out in
+    record { display = withSettings (o .display) (oldSaved (o .display .settings) (now .display .settings)); answer = o .answer; len = o .len; found = o .found; table = o .table; out = o .out }
 
 -- a display whose code 10 is at 7 and was saved at 0
 abbrev changed : Display
@@ -250,16 +257,16 @@ changed-entry : entryOf (changed .settings) 0x10 ≡ entryPresent (entryOf (two 
 changed-entry = present-stored (two .settings) 0x10 7 two-sized (omega arith) 0x10
 
 -- what the step saves
-saved-is : step changed text2 table0 (sends save) out0 .display .settings .saved ≡ changed .settings .present
+saved-is : stepKept (lending changed) (sends save) out0 .display .settings .saved ≡ changed .settings .present
 unfolding saveTurn saveAll
-saved-is = ap (λ (o : Outcome). o .display .settings .saved) (obeys changed text2 table0 (sends save) out0 save (lent2 changed (two-fresh .capabilities .whole)) (said save save-valid))
+saved-is = ap (λ (o : Outcome). o .display .settings .saved) (obeys (lending changed) (sends save) out0 save (lent2 changed (two-fresh .capabilities .whole)) (said save save-valid))
 
 pub keeps-saved-refuted : SavesFollow keepsSaved → ⊥
 unfolding entryOf entryPresent entrySaved
 keeps-saved-refuted h =
-    let wrong = ap (λ (e : Entry). e .saved) (h changed text2 table0 (sends save) out0 (lent2 changed (two-fresh .capabilities .whole)) (said save save-valid) .1 .saved 0x10) in
-    let room : 0x10 < length (step changed text2 table0 (sends save) out0 .display .settings .saved) = rw saved-is (omega (arith, present-sized (two .settings) 0x10 7 two-sized .present)) in
-    let same = getD-set-same (step changed text2 table0 (sends save) out0 .display .settings .saved) 0x10 (getD (changed .settings .saved) 0x10 0) 0 room in
+    let wrong = ap (λ (e : Entry). e .saved) (h (lending changed) (sends save) out0 (lent2 changed (two-fresh .capabilities .whole)) (said save save-valid) .1 .saved 0x10) in
+    let room : 0x10 < length (stepKept (lending changed) (sends save) out0 .display .settings .saved) = rw saved-is (omega (arith, present-sized (two .settings) 0x10 7 two-sized .present)) in
+    let same = getD-set-same (stepKept (lending changed) (sends save) out0 .display .settings .saved) 0x10 (getD (changed .settings .saved) 0x10 0) 0 room in
     let old : getD (changed .settings .saved) 0x10 0 ≡ 0 = ap (λ (e : Entry). e .saved) (changed-entry) ∙ ap (λ (e : Entry). e .saved) (two-fresh .settings .entries 0x10) in
     let new : getD (changed .settings .present) 0x10 0 ≡ 7 = ap (λ (e : Entry). e .present) changed-entry in
     let e : _≡_ {A = ℕ} 0 7 = sym old ∙ sym same ∙ wrong ∙ new in
@@ -283,7 +290,7 @@ crossed s = record {
 }
 
 abbrev crosses : StepRule
-crosses d lent table message out = step (withSettings d (crossed (d .settings))) lent table message out
+crosses now message out = stepKept (withDisplay now (withSettings (now .display) (crossed (now .display .settings)))) message out
 
 crossed-is : withSettings (start (timed 1 2) 2 1 .display) (crossed (start (timed 1 2) 2 1 .display .settings)) ≡ start (timed 2 1) 2 1 .display
 unfolding start startAnswer startingSettings
@@ -299,8 +306,8 @@ crosses-refuted h =
     let says = said timing timing-valid in
     let a : Settings = start (timed 2 1) 2 1 .display .settings in
     let b : Settings = start (timed 1 2) 2 1 .display .settings in
-    let right = timing-sent (start (timed 2 1) 2 1 .display) text2 table0 (sends timing) out0 (started (timed 2 1) 2 1) (lent2 _ (fresh-of 2 1 .capabilities .whole)) says .1 .sent in
-    let wrong = h (start (timed 1 2) 2 1 .display) text2 table0 (sends timing) out0 (started (timed 1 2) 2 1) (lent2 _ (fresh-of 1 2 .capabilities .whole)) says .1 .sent in
+    let right = timing-sent (lending (start (timed 2 1) 2 1 .display)) (sends timing) out0 (started (timed 2 1) 2 1) (lent2 _ (fresh-of 2 1 .capabilities .whole)) says .1 .sent in
+    let wrong = h (lending (start (timed 1 2) 2 1 .display)) (sends timing) out0 (started (timed 1 2) 2 1) (lent2 _ (fresh-of 1 2 .capabilities .whole)) says .1 .sent in
     let e = ap (λ (s : List ℕ). getD s 5 0) (sym right ∙ (rw crossed-is at wrong)) in
     omega (
       arith,
@@ -314,15 +321,15 @@ crosses-refuted h =
 -- ---- Table write: one above the length is accepted
 
 abbrev fillsGaps : StepRule
-fillsGaps d lent table message out = step (withTable d (unsent 1024)) lent table message out
+fillsGaps now message out = stepKept (withDisplay now (withTable (now .display) (unsent tableRoom))) message out
 
 pub fills-gaps-refuted : WriteNumbers fillsGaps → ⊥
 unfolding gap
 fills-gaps-refuted h =
-    let full : Display = withTable two (unsent 1024) in
+    let full : Display = withTable two (unsent tableRoom) in
     let lent = two-fresh .capabilities .whole in
-    let right = write-numbers full text2 table0 (sends gap) out0 0xF4 1 [] (lent2 full lent) (said gap gap-valid) .otherwise refl (omega arith) (omega arith) in
-    let wrong = h two text2 table0 (sends gap) out0 0xF4 1 [] (lent2 two lent) (said gap gap-valid) .gap refl (omega (arith, two-fresh .table .whole)) in
+    let right = write-numbers (lending full) (sends gap) out0 0xF4 1 [] (lent2 full lent) (said gap gap-valid) .otherwise refl (omega arith) (omega arith) in
+    let wrong = h (lending two) (sends gap) out0 0xF4 1 [] (lent2 two lent) (said gap gap-valid) .gap refl (omega (arith, two-fresh .table .whole)) in
     omega arith
 
 -- ---- the start: a fragment size of 32 is refused

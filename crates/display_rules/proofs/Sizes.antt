@@ -1,4 +1,5 @@
--- The step answers 1 for what it is lent in a wrong size, and for nothing else: `SizeNumbers` of specs/Operations.antt.
+-- The step answers 1 for what it is lent in a wrong size, and for nothing else: `SizeNumbers` of
+-- specs/Operations.antt.
 use mathlib.Core.Path.{_≡_, refl, sym, _∙_}
 use mathlib.Core.Bool.{Bool, true, false, cond, not, _||_}
 use mathlib.Core.List.{List}
@@ -9,14 +10,17 @@ use lib.Dec.{eqb, leb}
 use borrow.Author.Tests.{eqb-true, ne-eqb, lt-leb}
 use Rattle.codes.specs.Codes.{member}
 use Rattle.message_rules.specs.Answer.{done, wrongSize, wrongField, codeNotAllowed, valueTooLarge, notWanted, textTooLong}
+use Rattle.message_rules.specs.Limits.{outputRoom}
 use Rattle.message_rules.specs.Message.{Request, getFeature, setFeature, timing, save, text, tableRead, tableWrite, requests, decode, null, toDisplay, toHost}
 use Rattle.message_rules.specs.Read.{Read, ok, refused, unless}
 use Rattle.message_rules.proofs.Order.{requests-range}
 use Rattle.settings_rules.specs.Settings.{reservedBits, exceedsMaximum, setAnswer, answerToSet, setCode, timingIn}
+use Rattle.display_rules.specs.Limits.{tableRoom}
 use Rattle.display_rules.specs.Turn.{refusal, accepted, noReply, bytesOf, timingOf, getTurn, setTurn, saveTurn, timingTurn}
 use Rattle.display_rules.specs.Fragments.{readTurn, tableReadTurn}
 use Rattle.display_rules.specs.Table.{writeAnswer, tableWriteTurn}
 use Rattle.display_rules.specs.Step.{turnOf, lentWell, turn, outcome, step}
+use Rattle.display_rules.specs.Kept.{Kept, stepKept}
 use Rattle.display_rules.specs.Operations.{SizeNumbers}
 use Rattle.message_rules.specs.declared.TextKind.the-variants.{Table}
 use Rattle.display_rules.specs.declared.Display.{Display}
@@ -35,7 +39,7 @@ set-not-1 declared c writable above = go (not declared || eqb c 0xF4 || not writ
 
 write-not-1 : (c old at n : ℕ) → writeAnswer c old at n ≡ wrongSize → ⊥
 unfolding writeAnswer
-write-not-1 c old at n = go (eqb c 0xF4) (leb at old) (leb (at + n) 1024)
+write-not-1 c old at n = go (eqb c 0xF4) (leb at old) (leb (at + n) tableRoom)
   where
     go : (a b c : Bool) → unless a codeNotAllowed (unless b notWanted (unless c textTooLong done)) ≡ wrongSize → ⊥
     go false b c e = omega arith
@@ -81,26 +85,26 @@ module _ (d : Display) (lent table : List ℕ) where
 
 -- ---- the step
 
-module _ (d : Display) (lent table message out : List ℕ) where
-  judged : turnOf d lent table (decode requests toDisplay message) .answer ≡ wrongSize → ⊥
-  judged = never-1 d lent table (decode requests toDisplay message) (λ k r. requests-range toDisplay message k r .0)
+module _ (now : Kept) (message out : List ℕ) where
+  judged : turnOf (now .display) (now .text) (now .table) (decode requests toDisplay message) .answer ≡ wrongSize → ⊥
+  judged = never-1 (now .display) (now .text) (now .table) (decode requests toDisplay message) (λ k r. requests-range toDisplay message k r .0)
 
-  refused-1 : step d lent table message out .answer ≡ wrongSize → step d lent table message out ≡ outcome (refusal wrongSize d table noReply) out
+  refused-1 : stepKept now message out .answer ≡ wrongSize → stepKept now message out ≡ outcome (refusal wrongSize (now .display) (now .table) noReply) out
   unfolding step turn
-  refused-1 = go (lentWell d (length lent) (length table) (length out)) refl
+  refused-1 = go (lentWell (now .display) (length (now .text)) (length (now .table)) (length out)) refl
     where
-      go : (t : Bool) → lentWell d (length lent) (length table) (length out) ≡ t → step d lent table message out .answer ≡ wrongSize
-          → step d lent table message out ≡ outcome (refusal wrongSize d table noReply) out
+      go : (t : Bool) → lentWell (now .display) (length (now .text)) (length (now .table)) (length out) ≡ t → stepKept now message out .answer ≡ wrongSize
+          → stepKept now message out ≡ outcome (refusal wrongSize (now .display) (now .table) noReply) out
       go true w e = absurd (judged (rw w at e))
       go false w e = rw w
 
-pub size-numbers : SizeNumbers step
+pub size-numbers : SizeNumbers stepKept
 unfolding step turn
-size-numbers d lent table message out = record {
-  output = λ h. rw (lt-leb 38 (length out) h);
-  table = λ h. rw (ne-eqb (length table) 1024 h, and-false (leb 38 (length out)));
-  text = λ h. rw (ne-eqb (length lent) (d .capabilities .len) h, and-false (eqb (length table) 1024), and-false (leb 38 (length out)));
-  otherwise = λ w e. judged d lent table message out (rw (lent-well d lent table out w) at e);
-  stays = λ e. rw (refused-1 d lent table message out e) (record { display = refl; table = refl });
-  reply = λ e. rw (refused-1 d lent table message out e) (record { len = refl; bytes = refl; found = refl });
+size-numbers now message out = record {
+  output = λ h. rw (lt-leb outputRoom (length out) h);
+  table = λ h. rw (ne-eqb (length (now .table)) tableRoom h, and-false (leb outputRoom (length out)));
+  text = λ h. rw (ne-eqb (length (now .text)) (now .display .capabilities .len) h, and-false (eqb (length (now .table)) tableRoom), and-false (leb outputRoom (length out)));
+  otherwise = λ w e. judged now message out (rw (lent-well now out w) at e);
+  stays = λ e. rw (refused-1 now message out e) (record { display = refl; table = refl });
+  reply = λ e. rw (refused-1 now message out e) (record { len = refl; bytes = refl; found = refl });
 }

@@ -30,6 +30,7 @@ use Rattle.display_rules.specs.Turn.{refusal, accepted, noReply, bytesOf
 use Rattle.display_rules.specs.Fragments.{fragmentSize, nextCursor, readTurn, tableReadTurn}
 use Rattle.display_rules.specs.Table.{writeAnswer, lengthAfter, tableWriteTurn}
 use Rattle.display_rules.specs.Step.{turnOf, lentWell, turn, step}
+use Rattle.display_rules.specs.Kept.{stepKept}
 use Rattle.display_rules.specs.Statements.{Made, started, declared, stepped, loaded, Sound, MadeIsSound}
 use Rattle.message_rules.specs.declared.TextKind.{TextKind}
 use Rattle.message_rules.specs.declared.TextKind.the-variants.{Capabilities, Table}
@@ -169,12 +170,12 @@ step-sound : (d : Display) (lent table message out : List ℕ) → Bytes message
 unfolding step turn
 step-sound d lent table message out b z = after-turn d lent table message b z (lentWell d (length lent) (length table) (length out)) (decode requests toDisplay message) refl
 
-sound : {d : Display} → Made step d → Sound d
+sound : {d : Display} → Made stepKept d → Sound d
 unfolding declare
 sound (started t n p) = start-sound t n p
 sound (declared {d} m e h) = with-settings d _ (sound m) (declare-keeps-sound (d .settings) e h (sound m .settings))
-sound (stepped {d} m lent table message out b) = step-sound d lent table message out b (sound m)
-sound (loaded {d} m bytes) = with-settings d _ (sound m) (load-keeps-sound (d .settings) bytes (sound m .settings))
+sound (stepped now m message out b) = step-sound (now .display) (now .text) (now .table) message out b (sound m)
+sound (loaded {d} m profile) = with-settings d _ (sound m) (load-keeps-sound (d .settings) profile (sound m .settings))
 
-pub made-is-sound : MadeIsSound step
+pub made-is-sound : MadeIsSound stepKept
 made-is-sound d m = sound m

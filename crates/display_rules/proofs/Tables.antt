@@ -14,12 +14,12 @@ use Rattle.message_rules.specs.Read.{Read, ok, refused}
 use Rattle.message_rules.specs.Message.{tableCode}
 use Rattle.settings_rules.specs.Settings.{reservedBits, timingIn}
 use Rattle.display_rules.specs.Limits.{tableRoom}
-use Rattle.display_rules.specs.State.{cursorOf}
 use Rattle.display_rules.specs.Turn.{Turn, refusal, accepted, noReply, bytesOf, timingOf, getTurn, setTurn, saveTurn, timingTurn}
 use Rattle.display_rules.specs.Fragments.{readTurn, tableReadTurn}
 use Rattle.display_rules.specs.Table.{writeAnswer, lengthAfter, written, tableWriteTurn}
 use Rattle.display_rules.specs.Step.{turnOf, lentWell, turn, step}
-use Rattle.display_rules.specs.Statements.{whole, tableAfter, WritesGoIn, touches, OthersKeep}
+use Rattle.display_rules.specs.Kept.{stepKept, keeping}
+use Rattle.display_rules.specs.Statements.{tableAfter, WritesGoIn, touches, Untouched, OthersKeep}
 use Rattle.message_rules.specs.declared.TextKind.{TextKind}
 use Rattle.message_rules.specs.declared.TextKind.the-variants.{Capabilities, Table}
 use Rattle.display_rules.specs.declared.Display.{Display}
@@ -88,18 +88,19 @@ pub accepts : (old at n : ℕ) → at ≤ old → at + n ≤ tableRoom → write
 unfolding writeAnswer
 accepts old at n h l = rw (le-leb at old h, le-leb (at + n) tableRoom l)
 
-pub writes-go-in : WritesGoIn step
+pub writes-go-in : WritesGoIn stepKept
 unfolding step turn tableWriteTurn
-writes-go-in d lent table message out at s m w r begins ends =
-    let e : Lent d (length lent) (length table) (length out) = lent-sizes d (length lent) (length table) (length out) w in
+writes-go-in now message out at s m w r begins ends =
+    let d : Display = now .display in
+    let e : Lent d (length (now .text)) (length (now .table)) (length out) = lent-sizes d (length (now .text)) (length (now .table)) (length out) w in
     let room : d .table .len ≤ tableRoom = made-is-sound d m .room in
     rw (w, r, accepts (d .table .len) at (length s) begins ends)
-    (refl, after-is table s (d .table .len) at begins (omega (arith, e .table)), refl)
+    (refl, after-is (now .table) s (d .table .len) at begins (omega (arith, e .table)), refl)
 
 -- ---- other messages
 
 abbrev Keeps : TextKind → Display → List ℕ → List ℕ → Turn → Type 0
-Keeps k d lent table t = (cursorOf k (t .display) ≡ cursorOf k d) × (whole k (t .display) lent (t .table) ≡ whole k d lent table)
+Keeps k d lent table t = Untouched k (keeping d lent table) (keeping (t .display) lent (t .table))
 
 table-read-keeps : (d : Display) (lent table : List ℕ) (c q : ℕ) → Keeps Capabilities d lent table (tableReadTurn d lent table c q)
 unfolding tableReadTurn readTurn
@@ -154,6 +155,7 @@ keeps Table d lent table true (ok (tableRead c q)) h = other-read-keeps d lent t
 keeps Capabilities d lent table true (ok (tableWrite c at s)) h = table-write-keeps d lent table c at s
 keeps Table d lent table true (ok (tableWrite c at s)) h = other-write-keeps d lent table c at s h
 
-pub others-keep : OthersKeep step
+pub others-keep : OthersKeep stepKept
 unfolding step turn
-others-keep k d lent table message out h = keeps k d lent table (lentWell d (length lent) (length table) (length out)) (decode requests toDisplay message) h
+others-keep k now message out h =
+    keeps k (now .display) (now .text) (now .table) (lentWell (now .display) (length (now .text)) (length (now .table)) (length out)) (decode requests toDisplay message) h

@@ -1,6 +1,6 @@
 -- The step follows the paper's sentences on Table write, and the numbers and replies of Text and Table read: the
 -- theorems of specs/Texts.antt.
-use mathlib.Core.Path.{_≡_, refl, ap, _∙_}
+use mathlib.Core.Path.{_≡_, refl}
 use mathlib.Core.Bool.{Bool, true, false, cond}
 use mathlib.Core.List.{List}
 use Prim.Native.Nat.{ℕ, _+_, _≤_, _<_}
@@ -13,12 +13,13 @@ use Rattle.buffers.proofs.Theorems.{puts-bytes}
 use Rattle.message_rules.specs.Message.{text, tableRead, tableWrite, null, toHost}
 use Rattle.message_rules.proofs.Order.{null-read}
 use Rattle.message_rules.specs.declared.TextKind.the-variants.{Capabilities, Table}
+use Rattle.display_rules.specs.Limits.{tableRoom}
 use Rattle.display_rules.specs.Turn.{refusal}
 use Rattle.display_rules.specs.Fragments.{readTurn, tableReadTurn}
 use Rattle.display_rules.specs.Table.{writeAnswer, lengthAfter, tableWriteTurn}
-use Rattle.display_rules.specs.Step.{outcome, step}
+use Rattle.display_rules.specs.Step.{outcome}
+use Rattle.display_rules.specs.Kept.{Kept, stepKept}
 use Rattle.display_rules.specs.Texts.{Writes, WriteNumbers, TextReads, TableReads, ReadNumbers}
-use Rattle.display_rules.specs.declared.Display.{Display}
 use Rattle.display_rules.proofs.Sound.{write-accepted}
 use Rattle.display_rules.proofs.Operations.{obeys, replies-with}
 
@@ -33,13 +34,13 @@ module _ (c old at n : ℕ) where
   unfolding writeAnswer
   gap-10 e h = rw (eq-eqb c 0xF4 e, lt-leb at old h)
 
-  long-11 : c ≡ 0xF4 → at ≤ old → 1024 < at + n → writeAnswer c old at n ≡ 11
+  long-11 : c ≡ 0xF4 → at ≤ old → tableRoom < at + n → writeAnswer c old at n ≡ 11
   unfolding writeAnswer
-  long-11 e h l = rw (eq-eqb c 0xF4 e, le-leb at old h, lt-leb (at + n) 1024 l)
+  long-11 e h l = rw (eq-eqb c 0xF4 e, le-leb at old h, lt-leb (at + n) tableRoom l)
 
-  fits-0 : c ≡ 0xF4 → at ≤ old → at + n ≤ 1024 → writeAnswer c old at n ≡ 0
+  fits-0 : c ≡ 0xF4 → at ≤ old → at + n ≤ tableRoom → writeAnswer c old at n ≡ 0
   unfolding writeAnswer
-  fits-0 e h l = rw (eq-eqb c 0xF4 e, le-leb at old h, le-leb (at + n) 1024 l)
+  fits-0 e h l = rw (eq-eqb c 0xF4 e, le-leb at old h, le-leb (at + n) tableRoom l)
 
 module _ (old at n : ℕ) where
   length-anew : at ≡ 0 → lengthAfter old at n ≡ n
@@ -60,16 +61,16 @@ module _ (old at n : ℕ) where
 
 -- ---- a write
 
-module _ (d : Display) (table out : List ℕ) (c at : ℕ) (s : List ℕ) (room : length table ≡ 1024) where
+module _ (now : Kept) (out : List ℕ) (c at : ℕ) (s : List ℕ) (room : length (now .table) ≡ tableRoom) where
   answer : ℕ
-  answer = writeAnswer c (d .table .len) at (length s)
+  answer = writeAnswer c (now .display .table .len) at (length s)
 
-  of-accepted : answer ≡ 0 → Writes d table out c at s (outcome (tableWriteTurn d table c at s) out)
+  of-accepted : answer ≡ 0 → Writes now out c at s (outcome (tableWriteTurn (now .display) (now .table) c at s) out)
   unfolding answer tableWriteTurn
   of-accepted a =
-      let old : ℕ = d .table .len in
+      let old : ℕ = now .display .table .len in
       let shown = write-accepted c old at (length s) a in
-      let fits : at + length s ≤ length table = omega (arith, shown .2) in
+      let fits : at + length s ≤ length (now .table) = omega (arith, shown .2) in
       rw a
       (record {
         code = λ n. absurd (n (shown .0));
@@ -77,10 +78,10 @@ module _ (d : Display) (table out : List ℕ) (c at : ℕ) (s : List ℕ) (room 
         long = λ e h l. absurd (omega (arith, shown .2));
         otherwise = λ e h l. refl;
         refused = λ n. absurd (n refl);
-        inside = λ e i h. puts-bytes table at s fits .there i h;
-        before = puts-bytes table at s fits .before;
-        behind = puts-bytes table at s fits .behind;
-        buffer = puts-bytes table at s fits .same;
+        inside = λ e i h. puts-bytes (now .table) at s fits .there i h;
+        before = puts-bytes (now .table) at s fits .before;
+        behind = puts-bytes (now .table) at s fits .behind;
+        buffer = puts-bytes (now .table) at s fits .same;
         anew = λ e z. length-anew old at (length s) z;
         grown = λ e h l. length-grown old at (length s) h l;
         within = λ e h l. length-within old at (length s) h l;
@@ -92,10 +93,10 @@ module _ (d : Display) (table out : List ℕ) (c at : ℕ) (s : List ℕ) (room 
         size = refl;
       })
 
-  of-refused : (answer ≡ 0 → ⊥) → Writes d table out c at s (outcome (tableWriteTurn d table c at s) out)
+  of-refused : (answer ≡ 0 → ⊥) → Writes now out c at s (outcome (tableWriteTurn (now .display) (now .table) c at s) out)
   unfolding answer tableWriteTurn
   of-refused n =
-      let old : ℕ = d .table .len in
+      let old : ℕ = now .display .table .len in
       rw (ne-eqb answer 0 n)
       (record {
         code = code-8 c old at (length s);
@@ -118,34 +119,34 @@ module _ (d : Display) (table out : List ℕ) (c at : ℕ) (s : List ℕ) (room 
         size = refl;
       })
 
-  of-write : Writes d table out c at s (outcome (tableWriteTurn d table c at s) out)
+  of-write : Writes now out c at s (outcome (tableWriteTurn (now .display) (now .table) c at s) out)
   of-write = go (eqb answer 0) refl
     where
-      go : (t : Bool) → eqb answer 0 ≡ t → Writes d table out c at s (outcome (tableWriteTurn d table c at s) out)
+      go : (t : Bool) → eqb answer 0 ≡ t → Writes now out c at s (outcome (tableWriteTurn (now .display) (now .table) c at s) out)
       go true e = of-accepted (eqb-true _ _ e)
       go false e = of-refused (eqb-false _ _ e)
 
-pub write-numbers : WriteNumbers step
-write-numbers d lent table message out c at s w r = rw (obeys d lent table message out (tableWrite c at s) w r) (of-write d table out c at s (w .table))
+pub write-numbers : WriteNumbers stepKept
+write-numbers now message out c at s w r = rw (obeys now message out (tableWrite c at s) w r) (of-write now out c at s (w .table))
 
 -- ---- a read
 
-of-text : (d : Display) (lent table out : List ℕ) (q : ℕ) → TextReads lent (outcome (readTurn Capabilities d lent table q) out)
+of-text : (now : Kept) (out : List ℕ) (q : ℕ) → TextReads now (outcome (readTurn Capabilities (now .display) (now .text) (now .table) q) out)
 unfolding readTurn
-of-text d lent table out q = record { answer = refl; sent = take-append-seam _ _ }
+of-text now out q = record { answer = refl; sent = take-append-seam _ _ }
 
-of-table-read : (d : Display) (lent table out : List ℕ) (c q : ℕ) → TableReads d table out c (outcome (tableReadTurn d lent table c q) out)
+of-table-read : (now : Kept) (out : List ℕ) (c q : ℕ) → TableReads now out c (outcome (tableReadTurn (now .display) (now .text) (now .table) c q) out)
 unfolding tableReadTurn readTurn
-of-table-read d lent table out c q = record {
+of-table-read now out c q = record {
   code = λ n. rw (ne-eqb c 0xF4 n);
   otherwise = λ e. rw (eq-eqb c 0xF4 e);
-  null = λ n. rw (ne-eqb c 0xF4 n) (replies-with 3 _ out (refusal 8 d table (null toHost)) (null-read .fixed) refl refl);
+  null = λ n. rw (ne-eqb c 0xF4 n) (replies-with 3 _ out (refusal 8 (now .display) (now .table) (null toHost)) (null-read .fixed) refl refl);
   stays = λ n. rw (ne-eqb c 0xF4 n) (record { display = refl; table = refl });
-  sent = λ e. rw (eq-eqb c 0xF4 e) (take-append-seam (readTurn Table d lent table q .reply) _);
+  sent = λ e. rw (eq-eqb c 0xF4 e) (take-append-seam (readTurn Table (now .display) (now .text) (now .table) q .reply) _);
 }
 
-pub read-numbers : ReadNumbers step
+pub read-numbers : ReadNumbers stepKept
 read-numbers = record {
-  text = λ d lent table message out q w r. rw (obeys d lent table message out (text q) w r) (of-text d lent table out q);
-  table = λ d lent table message out c q w r. rw (obeys d lent table message out (tableRead c q) w r) (of-table-read d lent table out c q);
+  text = λ now message out q w r. rw (obeys now message out (text q) w r) (of-text now out q);
+  table = λ now message out c q w r. rw (obeys now message out (tableRead c q) w r) (of-table-read now out c q);
 }

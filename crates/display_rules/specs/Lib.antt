@@ -4,6 +4,7 @@ pub mod Turn
 pub mod Fragments
 pub mod Table
 pub mod Step
+pub mod Kept
 pub mod Statements
 pub mod Operations
 pub mod Starts

@@ -13,7 +13,8 @@ use Rattle.message_rules.specs.Read.{ok, refused}
 use Rattle.settings_rules.specs.Entries.{entryOf, Sized}
 use Rattle.settings_rules.specs.Operations.{Sets, Saves}
 use Rattle.display_rules.specs.Step.{Outcome}
-use Rattle.display_rules.specs.Statements.{StepRule, Made}
+use Rattle.display_rules.specs.Kept.{Kept, StepRule}
+use Rattle.display_rules.specs.Statements.{Made}
 use Rattle.display_rules.specs.declared.Display.{Display}
 use Rattle.display_rules.specs.declared.Found.the-variants.{Nothing}
 
@@ -21,9 +22,9 @@ use Rattle.display_rules.specs.declared.Found.the-variants.{Nothing}
 
 -- "A step is lent the list's buffer of exactly 1,024 bytes and the text at its starting length", and an output of 38
 -- bytes or more
-pub record LentRight (d : Display) (lent buffer out : List ℕ) : Type 0 where
-  pub text : length lent ≡ d .capabilities .len
-  pub table : length buffer ≡ 1024
+pub record LentRight (now : Kept) (out : List ℕ) : Type 0 where
+  pub text : length (now .text) ≡ now .display .capabilities .len
+  pub table : length (now .table) ≡ 1024
   pub output : 38 ≤ length out
 
 -- the message is read as this request
@@ -48,9 +49,9 @@ abbrev pub Sends : ℕ → Reply → List ℕ → Outcome → Type 0
 Sends n m = Replies n (encode replies toHost m)
 
 -- display and table are as they were
-pub record Stays (d : Display) (buffer : List ℕ) (o : Outcome) : Type 0 where
-  pub display : o .display ≡ d
-  pub table : o .table ≡ buffer
+pub record Stays (now : Kept) (o : Outcome) : Type 0 where
+  pub display : o .display ≡ now .display
+  pub table : o .table ≡ now .table
 
 -- the texts' lengths and cursors and the fragment size are as they were
 pub record SameTexts (d after : Display) : Type 0 where
@@ -59,73 +60,73 @@ pub record SameTexts (d after : Display) : Type 0 where
   pub size : after .size ≡ d .size
 
 -- all but the settings is as it was
-pub record StaysButSettings (d : Display) (buffer : List ℕ) (o : Outcome) : Type 0 where
-  pub display : SameTexts d (o .display)
-  pub table : o .table ≡ buffer
+pub record StaysButSettings (now : Kept) (o : Outcome) : Type 0 where
+  pub display : SameTexts (now .display) (o .display)
+  pub table : o .table ≡ now .table
 
 -- ---- 1
 
-pub record Sizes (d : Display) (lent buffer out : List ℕ) (o : Outcome) : Type 0 where
+pub record Sizes (now : Kept) (out : List ℕ) (o : Outcome) : Type 0 where
   -- "lent output under 38 bytes; .. list buffer or capability text of a wrong size"
   pub output : length out < 38 → o .answer ≡ 1
-  pub table : (length buffer ≡ 1024 → ⊥) → o .answer ≡ 1
-  pub text : (length lent ≡ d .capabilities .len → ⊥) → o .answer ≡ 1
-  pub otherwise : LentRight d lent buffer out → o .answer ≡ 1 → ⊥
+  pub table : (length (now .table) ≡ 1024 → ⊥) → o .answer ≡ 1
+  pub text : (length (now .text) ≡ now .display .capabilities .len → ⊥) → o .answer ≡ 1
+  pub otherwise : LentRight now out → o .answer ≡ 1 → ⊥
   -- 1 leaves "nothing changed"
-  pub stays : o .answer ≡ 1 → Stays d buffer o
+  pub stays : o .answer ≡ 1 → Stays now o
   pub reply : o .answer ≡ 1 → NoReply out o
 
 abbrev pub SizeNumbers : StepRule → Type 0
-SizeNumbers step = (d : Display) (lent table message out : List ℕ) → Sizes d lent table out (step d lent table message out)
+SizeNumbers step = (now : Kept) (message out : List ℕ) → Sizes now out (step now message out)
 
 -- ---- 2 to 7: what the reader refuses
 
-pub record Refuses (d : Display) (buffer out : List ℕ) (k : ℕ) (o : Outcome) : Type 0 where
+pub record Refuses (now : Kept) (out : List ℕ) (k : ℕ) (o : Outcome) : Type 0 where
   pub answer : o .answer ≡ k
   -- 6: "null message in the output, reply length 3"; "the three bytes 6E 80 BE"
   pub null : k ≡ 6 → Replies 3 (0x6E ∷ 0x80 ∷ 0xBE ∷ []) out o
   pub silent : (k ≡ 6 → ⊥) → NoReply out o
-  pub stays : Stays d buffer o
+  pub stays : Stays now o
 
 abbrev pub ReaderRefuses : StepRule → Type 0
-ReaderRefuses step = (d : Display) (lent table message out : List ℕ) (k : ℕ) → LentRight d lent table out → decode requests toDisplay message ≡ refused k
-    → Refuses d table out k (step d lent table message out)
+ReaderRefuses step = (now : Kept) (message out : List ℕ) (k : ℕ) → LentRight now out → decode requests toDisplay message ≡ refused k
+    → Refuses now out k (step now message out)
 
 -- ---- Get
 
-pub record Gets (d : Display) (table out : List ℕ) (c : ℕ) (o : Outcome) : Type 0 where
+pub record Gets (now : Kept) (out : List ℕ) (c : ℕ) (o : Outcome) : Type 0 where
   -- "always answer 0 with a Value reply"; "type (0 kept, 1 momentary)"
   pub answer : o .answer ≡ 0
-  pub kept : entryOf (d .settings) c .declared ≡ true → entryOf (d .settings) c .readable ≡ true → entryOf (d .settings) c .momentary ≡ false
-      → Sends 11 (value 0 c 0 (entryOf (d .settings) c .maximum) (entryOf (d .settings) c .present)) out o
-  pub momentary : entryOf (d .settings) c .declared ≡ true → entryOf (d .settings) c .readable ≡ true → entryOf (d .settings) c .momentary ≡ true
-      → Sends 11 (value 0 c 1 (entryOf (d .settings) c .maximum) (entryOf (d .settings) c .present)) out o
+  pub kept : let e = entryOf (now .display .settings) c in e .declared ≡ true → e .readable ≡ true → e .momentary ≡ false
+      → Sends 11 (value 0 c 0 (e .maximum) (e .present)) out o
+  pub momentary : let e = entryOf (now .display .settings) c in e .declared ≡ true → e .readable ≡ true → e .momentary ≡ true
+      → Sends 11 (value 0 c 1 (e .maximum) (e .present)) out o
   -- "A code undeclared or not readable gives result 1 with type, max and present 0."
-  pub undeclared : entryOf (d .settings) c .declared ≡ false → Sends 11 (value 1 c 0 0 0) out o
-  pub writeOnly : entryOf (d .settings) c .readable ≡ false → Sends 11 (value 1 c 0 0 0) out o
-  pub stays : Stays d table o
+  pub undeclared : entryOf (now .display .settings) c .declared ≡ false → Sends 11 (value 1 c 0 0 0) out o
+  pub writeOnly : entryOf (now .display .settings) c .readable ≡ false → Sends 11 (value 1 c 0 0 0) out o
+  pub stays : Stays now o
 
 abbrev pub GetsFollow : StepRule → Type 0
-GetsFollow step = (d : Display) (lent table message out : List ℕ) (c : ℕ) → LentRight d lent table out → Says message (getFeature c)
-    → Gets d table out c (step d lent table message out)
+GetsFollow step = (now : Kept) (message out : List ℕ) (c : ℕ) → LentRight now out → Says message (getFeature c)
+    → Gets now out c (step now message out)
 
 -- ---- Set: "No reply."
 
 abbrev pub SetsFollow : StepRule → Type 0
-SetsFollow step = (d : Display) (lent table message out : List ℕ) (c v : ℕ) → Sized (d .settings) → LentRight d lent table out → Bytes message
-    → Says message (setFeature c v) → let o = step d lent table message out in
-    Sets (d .settings) c v (o .answer) (o .display .settings) × StaysButSettings d table o × NoReply out o
+SetsFollow step = (now : Kept) (message out : List ℕ) (c v : ℕ) → Sized (now .display .settings) → LentRight now out → Bytes message
+    → Says message (setFeature c v) → let o = step now message out in
+    Sets (now .display .settings) c v (o .answer) (o .display .settings) × StaysButSettings now o × NoReply out o
 
 -- ---- Save: "every saved value is the present one. No reply."
 
 abbrev pub SavesFollow : StepRule → Type 0
-SavesFollow step = (d : Display) (lent table message out : List ℕ) → LentRight d lent table out → Says message save
-    → let o = step d lent table message out in
-    (o .answer ≡ 0) × Saves (d .settings) (o .display .settings) × StaysButSettings d table o × NoReply out o
+SavesFollow step = (now : Kept) (message out : List ℕ) → LentRight now out → Says message save
+    → let o = step now message out in
+    (o .answer ≡ 0) × Saves (now .display .settings) (o .display .settings) × StaysButSettings now o × NoReply out o
 
 -- ---- Timing: "the Timing reply", by its fields
 
 abbrev pub TimingSent : StepRule → Type 0
-TimingSent step = (d : Display) (lent table message out : List ℕ) → Made step d → LentRight d lent table out → Says message timing
-    → let o = step d lent table message out in
-    (o .answer ≡ 0) × Sends 9 (timingReply (d .settings .status) (d .settings .horizontal) (d .settings .vertical)) out o × Stays d table o
+TimingSent step = (now : Kept) (message out : List ℕ) → Made step (now .display) → LentRight now out → Says message timing
+    → let o = step now message out in let s = now .display .settings in
+    (o .answer ≡ 0) × Sends 9 (timingReply (s .status) (s .horizontal) (s .vertical)) out o × Stays now o

@@ -1,4 +1,5 @@
--- What is claimed of a display. A theorem over steps takes the rule for steps as a parameter: proofs/ proves it of Step.antt's, and refutes it of wrong ones.
+-- What is claimed of a display. A theorem over steps takes the rule for steps as a parameter: proofs/ proves it of
+-- Step.antt's (`stepKept`), and refutes it of wrong ones.
 use Prim.Native.Nat.{ℕ, _+_, _-_, _≤_, _<_}
 use mathlib.Core.Path.{_≡_}
 use mathlib.Core.Logic.{_⊎_}
@@ -13,26 +14,22 @@ use Rattle.message_rules.specs.Limits.{mostFragment}
 use Rattle.message_rules.specs.Message.{Request, getFeature, setFeature, timing, save, text, tableRead, tableWrite, requests, encode, decode, toDisplay}
 use Rattle.message_rules.specs.Read.{Read, ok, refused}
 use Rattle.buffers.specs.Buffers.{over}
-use Rattle.profile_rules.specs.Profile.{loadProfile}
 use Rattle.settings_rules.specs.Entries as entries
 use Rattle.message_rules.specs.Message.{tableCode}
 use Rattle.settings_rules.specs.declared.Declaration.{Declaration}
 use Rattle.settings_rules.specs.declared.Timing.{Timing}
 use Rattle.message_rules.specs.Limits.{longestText}
 use Rattle.display_rules.specs.Limits.{tableRoom}
-use Rattle.display_rules.specs.State.{startingCursor, cursorOf, withSettings, start, declare}
+use Rattle.display_rules.specs.State.{startingCursor, cursorOf, start, declare}
 use Rattle.display_rules.specs.Turn.{bytesOf}
 use Rattle.display_rules.specs.Fragments.{lesser, fragmentAt, foundBytes, fragmentReply}
-use Rattle.display_rules.specs.Step.{Outcome, lentWell}
+use Rattle.display_rules.specs.Step.{Outcome}
+use Rattle.display_rules.specs.Kept.{Kept, RightSizes, StepRule, keptAfter, load}
 use Rattle.message_rules.specs.declared.TextKind.{TextKind}
 use Rattle.message_rules.specs.declared.TextKind.the-variants.{Capabilities, Table}
 use Rattle.display_rules.specs.declared.TextState.{TextState}
 use Rattle.display_rules.specs.declared.Display.{Display}
 use Rattle.display_rules.specs.declared.Found.the-variants.{Nothing}
-
--- a rule for steps: that of Step.antt, or a wrong one
-abbrev pub StepRule : Type 0
-StepRule = Display → (lent table message out : List ℕ) → Outcome
 
 -- ---- a refusal leaves what the table of answers says
 
@@ -54,26 +51,28 @@ nullDue r k = eqb k unknownCommand || (isTableRead r && eqb k codeNotAllowed)
 abbrev pub nullBytes : List ℕ
 nullBytes = 0x6E ∷ 0x80 ∷ 0xBE ∷ []
 
--- no setting, saved value, table byte, table length or cursor is changed, and the output only where the null message is due
-pub record NothingChanged (d : Display) (t b : List ℕ) (r : Read Request) (o : Outcome) : Type 0 where
-  pub display : o .display ≡ d
-  pub table : o .table ≡ t
+-- no setting, saved value, table byte, table length or cursor is changed, and the output only where the null message
+-- is due
+pub record NothingChanged (now : Kept) (b : List ℕ) (r : Read Request) (o : Outcome) : Type 0 where
+  pub display : o .display ≡ now .display
+  pub table : o .table ≡ now .table
   pub found : o .found ≡ Nothing
   pub len : o .len ≡ cond (nullDue r (o .answer)) 3 0
   pub out : o .out ≡ cond (nullDue r (o .answer)) (over nullBytes b) b
 
 abbrev pub RefusalsChangeNothing : StepRule → Type 0
-RefusalsChangeNothing step = (d : Display) (lent table message out : List ℕ) → (step d lent table message out .answer ≡ done → ⊥)
-    → NothingChanged d table out (decode requests toDisplay message) (step d lent table message out)
+RefusalsChangeNothing step = (now : Kept) (message out : List ℕ) → (step now message out .answer ≡ done → ⊥)
+    → NothingChanged now out (decode requests toDisplay message) (step now message out)
 
 -- ---- displays that calls have made
 
--- by a start, refused or not, then declaring, steps and loading a profile, in any order, whatever was lent and whatever bytes the messages and the profiles were
+-- by a start, refused or not, then declaring, steps and loading a profile, in any order, whatever was lent and
+-- whatever bytes the messages and the profiles were
 pub data Made (step : StepRule) : Display → Type 0 where
   started : (t : Timing) (n p : ℕ) → Made step (start t n p .display)
   declared : {d : Display} → Made step d → (e : Declaration) → e .code < allCodes → Made step (declare d e .display)
-  stepped : {d : Display} → Made step d → (lent table message out : List ℕ) → Bytes message → Made step (step d lent table message out .display)
-  loaded : {d : Display} → Made step d → (bytes : List ℕ) → Made step (withSettings d (loadProfile (d .settings) bytes .settings))
+  stepped : (now : Kept) → Made step (now .display) → (message out : List ℕ) → Bytes message → Made step (step now message out .display)
+  loaded : {d : Display} → Made step d → (profile : List ℕ) → Made step (load d profile)
 
 -- a text of which nothing was sent, or the last fragment had "the next min(piece size, bytes left) bytes"
 abbrev pub Placed : (size : ℕ) → TextState → Type 0
@@ -94,9 +93,9 @@ MadeIsSound step = (d : Display) → Made step d → Sound d
 -- ---- reading a text
 
 -- a whole text: the capabilities string as it is lent, or the first bytes of the table's buffer
-abbrev pub whole : TextKind → Display → (lent table : List ℕ) → List ℕ
-whole Capabilities d lent table = lent
-whole Table d lent table = take (d .table .len) table
+abbrev pub whole : TextKind → Kept → List ℕ
+whole Capabilities now = now .text
+whole Table now = take (now .display .table .len) (now .table)
 
 -- the request for a fragment at q
 abbrev pub asksFor : TextKind → ℕ → Request
@@ -104,32 +103,34 @@ asksFor Capabilities q = text q
 asksFor Table q = tableRead tableCode q
 
 -- The paper's sentences on a read at the offset q, one a field.
-pub record Reads (k : TextKind) (d : Display) (lent table out : List ℕ) (q : ℕ) (o : Outcome) : Type 0 where
+pub record Reads (k : TextKind) (now : Kept) (out : List ℕ) (q : ℕ) (o : Outcome) : Type 0 where
   pub answer : o .answer ≡ done
   -- "Offset 0: the place's offset is 0."
   pub zero : q ≡ 0 → cursorOf k (o .display) .offset .0 ≡ 0
   -- "Equal to the place's offset: send that piece again."
-  pub again : (q ≡ 0 → ⊥) → q ≡ cursorOf k d .offset .0 → cursorOf k (o .display) ≡ cursorOf k d
+  pub again : let c = cursorOf k (now .display) in (q ≡ 0 → ⊥) → q ≡ c .offset .0 → cursorOf k (o .display) ≡ c
   -- "Equal to offset + length: move there."
-  pub next : q ≡ cursorOf k d .offset .0 + cursorOf k d .len → cursorOf k (o .display) .offset .0 ≡ q
+  pub next : let c = cursorOf k (now .display) in q ≡ c .offset .0 + c .len → cursorOf k (o .display) .offset .0 ≡ q
   -- "Otherwise go to 0."
-  pub other : (q ≡ cursorOf k d .offset .0 → ⊥) → (q ≡ cursorOf k d .offset .0 + cursorOf k d .len → ⊥) → cursorOf k (o .display) .offset .0 ≡ 0
+  pub other : let c = cursorOf k (now .display) in (q ≡ c .offset .0 → ⊥) → (q ≡ c .offset .0 + c .len → ⊥) → cursorOf k (o .display) .offset .0 ≡ 0
   -- "The piece is the next min(piece size, bytes left) bytes; at the end it has none."
-  pub size : let left = length (whole k d lent table) - cursorOf k (o .display) .offset .0 in cursorOf k (o .display) .len ≡ cond (ltb (d .size) left) (d .size) left
+  pub size : let most = now .display .size in let left = length (whole k now) - cursorOf k (o .display) .offset .0 in
+      cursorOf k (o .display) .len ≡ cond (ltb most left) most left
   -- "The reply carries the place's new offset" and the bytes from there
-  pub sent : take (o .len) (o .out) ≡ bytesOf (fragmentReply k (cursorOf k (o .display)) (fragmentAt (whole k d lent table) (cursorOf k (o .display))))
+  pub sent : take (o .len) (o .out) ≡ bytesOf (fragmentReply k (cursorOf k (o .display)) (fragmentAt (whole k now) (cursorOf k (o .display))))
   pub rest : drop (o .len) (o .out) ≡ drop (o .len) out
   -- "The piece found is handed back as a part of whichever of the two lent texts was asked for."
-  pub handed : foundBytes lent (o .table) (o .found) ≡ fragmentAt (whole k d lent table) (cursorOf k (o .display))
+  pub handed : foundBytes (now .text) (o .table) (o .found) ≡ fragmentAt (whole k now) (cursorOf k (o .display))
   -- the text is as it was
-  pub kept : whole k (o .display) lent (o .table) ≡ whole k d lent table
+  pub kept : whole k (keptAfter now o) ≡ whole k now
 
 abbrev pub ReadsFollow : StepRule → Type 0
-ReadsFollow step = (k : TextKind) (d : Display) (lent table out : List ℕ) (q : ℕ)
-    → Made step d → lentWell d (length lent) (length table) (length out) ≡ true → q < 65536
-    → Reads k d lent table out q (step d lent table (encode requests toDisplay (asksFor k q)) out)
+ReadsFollow step = (k : TextKind) (now : Kept) (out : List ℕ) (q : ℕ)
+    → Made step (now .display) → RightSizes now out → q < 65536
+    → Reads k now out q (step now (encode requests toDisplay (asksFor k q)) out)
 
--- the messages that move the cursor of a text or change it; a Table read or write of another code than F4 is 8, and does neither
+-- the messages that move the cursor of a text or change it; a Table read or write of another code than F4 is 8, and
+-- does neither
 abbrev pub touches : TextKind → Read Request → Bool
 touches k (ok (getFeature c)) = false
 touches k (ok (setFeature c v)) = false
@@ -143,11 +144,14 @@ touches Capabilities (ok (tableWrite c at s)) = false
 touches Table (ok (tableWrite c at s)) = eqb c tableCode
 touches k (refused n) = false
 
+-- a text and its cursor are as they were
+abbrev pub Untouched : TextKind → (now next : Kept) → Type 0
+Untouched k now next = (cursorOf k (next .display) ≡ cursorOf k (now .display)) × (whole k next ≡ whole k now)
+
 -- all others leave it, and its cursor, alone
 abbrev pub OthersKeep : StepRule → Type 0
-OthersKeep step = (k : TextKind) (d : Display) (lent table message out : List ℕ) → touches k (decode requests toDisplay message) ≡ false
-    → (cursorOf k (step d lent table message out .display) ≡ cursorOf k d)
-    × (whole k (step d lent table message out .display) lent (step d lent table message out .table) ≡ whole k d lent table)
+OthersKeep step = (k : TextKind) (now : Kept) (message out : List ℕ) → touches k (decode requests toDisplay message) ≡ false
+    → Untouched k now (keptAfter now (step now message out))
 
 -- ---- writing the table
 
@@ -157,12 +161,13 @@ tableAfter table at s = cond (eqb at 0) s (take at table ++ (s ++ drop (at + len
 
 -- every write is accepted that none of the refusals names, and the next read starts anew
 abbrev pub WritesGoIn : StepRule → Type 0
-WritesGoIn step = (d : Display) (lent table message out : List ℕ) (at : ℕ) (s : List ℕ)
-    → Made step d → lentWell d (length lent) (length table) (length out) ≡ true → decode requests toDisplay message ≡ ok (tableWrite tableCode at s)
-    → at ≤ d .table .len → at + length s ≤ tableRoom
-    → (step d lent table message out .answer ≡ done)
-    × (whole Table (step d lent table message out .display) lent (step d lent table message out .table) ≡ tableAfter (whole Table d lent table) at s)
-    × (cursorOf Table (step d lent table message out .display) ≡ startingCursor)
+WritesGoIn step = (now : Kept) (message out : List ℕ) (at : ℕ) (s : List ℕ)
+    → Made step (now .display) → RightSizes now out → decode requests toDisplay message ≡ ok (tableWrite tableCode at s)
+    → at ≤ now .display .table .len → at + length s ≤ tableRoom
+    → let o = step now message out in
+    (o .answer ≡ done)
+    × (whole Table (keptAfter now o) ≡ tableAfter (whole Table now) at s)
+    × (cursorOf Table (o .display) ≡ startingCursor)
 
 -- ---- the number declared
 
@@ -176,4 +181,4 @@ DeclaringAddsOne step = (d : Display) (e : Declaration) → Made step d → e .c
     → countOf (declare d e .display .settings .declared) ≡ countOf (d .settings .declared) + cond (eqb (declare d e .answer) done) 1 0
 
 abbrev pub StepsDeclareNone : StepRule → Type 0
-StepsDeclareNone step = (d : Display) (lent table message out : List ℕ) → step d lent table message out .display .settings .declared ≡ d .settings .declared
+StepsDeclareNone step = (now : Kept) (message out : List ℕ) → step now message out .display .settings .declared ≡ now .display .settings .declared

@@ -45,8 +45,8 @@ wide-requires c κs = search needs
 front-requires : tie.Need-front-requires Inv-loop μ-loop
 front-requires c κs = search needs
 
-slice-aggregate-step : tie.Need-slice-aggregate-step Inv-loop μ-loop
-slice-aggregate-step c = search needs
+slice-aggregate-ddcci-display-step : tie.Need-slice-aggregate-ddcci-display-step Inv-loop μ-loop
+slice-aggregate-ddcci-display-step c = search needs
 
 slice-aggregate-front-2 : tie.Need-slice-aggregate-front-2 Inv-loop μ-loop
 slice-aggregate-front-2 c = search needs
@@ -54,11 +54,11 @@ slice-aggregate-front-2 c = search needs
 front-requires-2 : tie.Need-front-requires-2 Inv-loop μ-loop
 front-requires-2 c κs = search needs
 
-slice-aggregate-step-2 : tie.Need-slice-aggregate-step-2 Inv-loop μ-loop
-slice-aggregate-step-2 c = search needs
+slice-aggregate-ddcci-display-step-2 : tie.Need-slice-aggregate-ddcci-display-step-2 Inv-loop μ-loop
+slice-aggregate-ddcci-display-step-2 c = search needs
 
-step-requires : tie.Need-step-requires Inv-loop μ-loop
-step-requires c κs = search needs
+ddcci-display-step-requires : tie.Need-ddcci-display-step-requires Inv-loop μ-loop
+ddcci-display-step-requires c κs = search needs
 
 slice-aggregate-front-3 : tie.Need-slice-aggregate-front-3 Inv-loop μ-loop
 slice-aggregate-front-3 c = search needs
@@ -116,11 +116,11 @@ main-spec =
     slice-aggregate-front
     wide-requires
     front-requires
-    slice-aggregate-step
+    slice-aggregate-ddcci-display-step
     slice-aggregate-front-2
     front-requires-2
-    slice-aggregate-step-2
-    step-requires
+    slice-aggregate-ddcci-display-step-2
+    ddcci-display-step-requires
     slice-aggregate-front-3
     front-requires-3
     write-answer-requires

@@ -32,9 +32,7 @@ pub fn unsent(len: u16) -> TextState
 pub fn stored(mut d: Display, code: u8, value: u16) -> Display
     ensures { λ r. ⌜ r ≡ withSettings d (withPresent (d .settings) code value) ⌝ }
 {
-    let settings = d.settings;
-    let after = settings::store(settings, code, value);
-    d.settings = after;
+    d.settings = settings::store(d.settings, code, value);
     d
 }
 

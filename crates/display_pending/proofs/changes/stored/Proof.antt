@@ -9,7 +9,7 @@ store-requires : tie.Need-store-requires
 store-requires c κs = search needs
 
 returns : tie.Need-returns
-returns c = ap (withSettings (c .before .before .args .d)) (c .store .ensures)
+returns c = ap (withSettings (c .before .args .d)) (c .store .ensures)
 
 pub stored-spec : {M : Type 1} → statement M
 stored-spec = tie.close (tie.spec store-requires returns)

@@ -3,3 +3,4 @@ pub mod Stores
 pub mod Theorems
 pub mod Operations
 pub mod Values
+pub mod Refuted

@@ -36,7 +36,7 @@ pub no-code : (t : Timing) → NoCode t (startingSettings t)
 unfolding startingSettings entryOf
 no-code t = record { entries = λ c. rw (none-inside c, zeros 256 c); status = refl; horizontal = refl; vertical = refl }
 
-pub starts-as-written : StartsAsWritten
+pub starts-as-written : StartsAsWritten startWith
 unfolding startWith
 starts-as-written t = go (eqb (reservedBits (t .status)) 0) refl
   where
@@ -128,7 +128,7 @@ module _ (s : Settings) (d : Declaration) where
           kept true f = absurd (true≢false (sym (a .momentary (eqb-true _ _ f)) ∙ e))
           kept false f = ne-one (d .kind) (a .kind) (eqb-false _ _ f)
 
-pub declares-as-written : DeclaresAsWritten
+pub declares-as-written : DeclaresAsWritten declareCode
 declares-as-written s d z h = record {
   table = λ e. refused-18 s d (for-table s d e);
   twice = λ e. refused-18 s d (for-twice s d e);
@@ -178,7 +178,7 @@ module _ (s : Settings) (c value : ℕ) where
       go true = present-stored s c value z h b ∙ rw (ne-eqb b c n)
       go false = refl
 
-pub sets-as-written : SetsAsWritten
+pub sets-as-written : SetsAsWritten setCode
 sets-as-written s c value z h = record {
   undeclared = undeclared-8 s c value;
   table = table-8 s c value;
@@ -195,6 +195,6 @@ sets-as-written s c value z h = record {
 
 -- ---- Save
 
-pub saves-as-written : SavesAsWritten
+pub saves-as-written : SavesAsWritten saveAll
 unfolding saveAll
 saves-as-written s = record { saved = saves-all s; timing = record { status = refl; horizontal = refl; vertical = refl } }

@@ -5,11 +5,11 @@
 use Prim.Native.Nat.{ℕ, _/_, _%_, _≤_, _<_}
 use mathlib.Core.Path.{_≡_}
 use mathlib.Core.Bool.{true, false}
-use Rattle.settings_rules.specs.Settings.{startWith, declareCode, setCode, saveAll}
 use Rattle.settings_rules.specs.Entries.{Entry, entryOf, entryPresent, entrySaved, Sized}
 use Rattle.settings_rules.specs.declared.Timing.{Timing}
 use Rattle.settings_rules.specs.declared.Settings.{Settings}
 use Rattle.settings_rules.specs.declared.Declaration.{Declaration}
+use Rattle.settings_rules.specs.declared.Change.{Change}
 
 -- the timing is as it was
 pub record SameTiming (s after : Settings) : Type 0 where
@@ -116,16 +116,22 @@ pub record Saves (s : Settings) (after : Settings) : Type 0 where
   pub saved : (c : ℕ) → entryOf after c ≡ entrySaved (entryOf s c) (entryOf s c .present)
   pub timing : SameTiming s after
 
--- ---- the rules of Settings.antt
+-- ---- the rules of Settings.antt, and any other: proofs/ refutes wrong ones
 
-abbrev pub StartsAsWritten : Type 0
-StartsAsWritten = (t : Timing) → Starts t (startWith t .answer) (startWith t .settings)
+abbrev pub StartsAsWritten : (Timing → Change) → Type 0
+StartsAsWritten start = (t : Timing) → Starts t (start t .answer) (start t .settings)
 
-abbrev pub DeclaresAsWritten : Type 0
-DeclaresAsWritten = (s : Settings) (d : Declaration) → Sized s → d .code < 256 → Declares s d (declareCode s d .answer) (declareCode s d .settings)
+abbrev pub DeclareRule : Type 0
+DeclareRule = Settings → Declaration → Change
 
-abbrev pub SetsAsWritten : Type 0
-SetsAsWritten = (s : Settings) (c value : ℕ) → Sized s → c < 256 → Sets s c value (setCode s c value .answer) (setCode s c value .settings)
+abbrev pub DeclaresAsWritten : DeclareRule → Type 0
+DeclaresAsWritten declare = (s : Settings) (d : Declaration) → Sized s → d .code < 256 → Declares s d (declare s d .answer) (declare s d .settings)
 
-abbrev pub SavesAsWritten : Type 0
-SavesAsWritten = (s : Settings) → Saves s (saveAll s)
+abbrev pub SetRule : Type 0
+SetRule = Settings → (code value : ℕ) → Change
+
+abbrev pub SetsAsWritten : SetRule → Type 0
+SetsAsWritten set = (s : Settings) (c value : ℕ) → Sized s → c < 256 → Sets s c value (set s c value .answer) (set s c value .settings)
+
+abbrev pub SavesAsWritten : (Settings → Settings) → Type 0
+SavesAsWritten save = (s : Settings) → Saves s (save s)

@@ -10,9 +10,9 @@ use borrow.Author.Tests.{eqb-true, le-leb}
 use Rattle.message_rules.specs.Answer.{done, wrongField}
 use Rattle.message_rules.specs.Limits.{outputRoom, mostFragment}
 use Rattle.buffers.specs.Buffers.{over}
-use Rattle.message_builder.specs.Output.{Builds}
-use Rattle.message_builder.specs.declared.Built.{Built}
-use Rattle.message_builder.specs.declared.Built.the-variants.{Done, Refused}
+use Rattle.message_output.specs.Output.{Builds}
+use Rattle.message_output.specs.declared.Built.{Built}
+use Rattle.message_output.specs.declared.Built.the-variants.{Done, Refused}
 use Rattle.codes.specs.Codes.{member}
 use Rattle.settings.specs.Settings.{withPresent, setAnswer, judgeSet, setCode}
 use Rattle.settings.proofs.Answers.{both}

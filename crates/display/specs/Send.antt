@@ -4,8 +4,8 @@ use mathlib.Core.Path.{_≡_}
 use mathlib.Core.List.{List}
 use lib.ListN.{length}
 use Rattle.buffers.specs.Buffers.{over}
-use Rattle.message_builder.specs.declared.Built.{Built}
-use Rattle.message_builder.specs.declared.Built.the-variants.{Done, Refused}
+use Rattle.message_output.specs.declared.Built.{Built}
+use Rattle.message_output.specs.declared.Built.the-variants.{Done, Refused}
 
 abbrev pub builtLength : Built → ℕ
 builtLength (Done n) = n

@@ -24,8 +24,7 @@ use display_rules::Found;
 use display_rules::TextState;
 use display_texts::fragments;
 use display_texts::table;
-use message_builder::Built;
-use message_builder::reply;
+use message_output::Built;
 use message_rules::Position;
 use message_rules::TABLE_CODE;
 use message_rules::TO_HOST;
@@ -63,7 +62,13 @@ pub(crate) fn timing(s: Settings, out: &mut [u8]) -> Pending
     requires { ⌜ outputRoom ≤ length (now out) ⌝ }
     ensures { λ r. ⌜ ((d : Display) (table : List ℕ) → d .settings ≡ s → Prepares d (pendingBy d timing (timingTurn d table)) (outcome (timingTurn d table) (now (out .entry))) r table (now (out .exit))) ⌝ }
 {
-    let built = reply::build_timing_reply(TO_HOST, s.status, s.horizontal, s.vertical, out);
+    let built = message_reply_builder::build_timing_reply(
+        TO_HOST,
+        s.status,
+        s.horizontal,
+        s.vertical,
+        out,
+    );
     match built {
         Built::Done(n) => Pending::Replied(n),
         Built::Refused(answer) => Pending::Refused(answer, 0),

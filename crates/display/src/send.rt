@@ -8,8 +8,7 @@ ghost use Rattle.display_rules.specs.Turn.{bytesOf, featureReply};
 ghost use Rattle.display_rules.specs.Fragments.{fragmentReply};
 ghost use Rattle.display.specs.Send.{builtLength, Sent};
 use display_rules::FragmentCursor;
-use message_builder::Built;
-use message_builder::reply;
+use message_output::Built;
 use message_rules::TO_HOST;
 use message_rules::TextKind;
 use settings::Feature;
@@ -29,7 +28,7 @@ pub(crate) fn null(out: &mut [u8]) -> usize
     requires { ⌜ outputRoom ≤ length (now out) ⌝ }
     ensures { λ r. ⌜ Sent (messages.null messages.toHost) (now (out .entry)) (now (out .exit)) r ⌝ }
 {
-    length_of(reply::build_null(out))
+    length_of(message_reply_builder::build_null(out))
 }
 
 // Sends a Value reply.
@@ -37,7 +36,15 @@ pub(crate) fn feature(v: Feature, out: &mut [u8]) -> usize
     requires { ⌜ (outputRoom ≤ length (now out)) × (v .result ≤ 1) × (v .kind ≤ 1) ⌝ }
     ensures { λ r. ⌜ Sent (bytesOf (featureReply v)) (now (out .entry)) (now (out .exit)) r ⌝ }
 {
-    let built = reply::build_value(TO_HOST, v.result, v.code, v.kind, v.maximum, v.present, out);
+    let built = message_reply_builder::build_value(
+        TO_HOST,
+        v.result,
+        v.code,
+        v.kind,
+        v.maximum,
+        v.present,
+        out,
+    );
     length_of(built)
 }
 
@@ -49,8 +56,10 @@ pub(crate) fn fragment(kind: TextKind, c: FragmentCursor, bytes: &[u8], out: &mu
     let offset = c.offset;
     match kind {
         TextKind::Capabilities => {
-            length_of(reply::build_text_fragment(TO_HOST, offset, bytes, out))
+            length_of(message_reply_builder::build_text_fragment(TO_HOST, offset, bytes, out))
         }
-        TextKind::Table => { length_of(reply::build_table_fragment(TO_HOST, offset, bytes, out)) }
+        TextKind::Table => {
+            length_of(message_reply_builder::build_table_fragment(TO_HOST, offset, bytes, out))
+        }
     }
 }

@@ -4,14 +4,14 @@ use mathlib.Core.Path.{_≡_, refl, sym, ap, ap₂, _∙_}
 use mathlib.Core.Bool.{Bool, true, false, cond, _&&_}
 use mathlib.Core.List.{List, [], _∷_, _++_}
 use Prim.Native.Nat.{ℕ, zero, suc, _+_, _-_, _≤_, _<_}
-use native.Mathlib.Nat.{sub-zero}
 use native.Mathlib.Omega.{arith}
 use lib.Dec.{eqb, leb, ltb, leb·suc-suc}
-use lib.ListN.{length, getD, take, drop, length-take, length-drop}
-use lib.Seq.{drop-cons, take-suc}
-use borrow.Author.Tests.{leb-true, le-leb, lt-leb, lt-ltb, eq-eqb, ne-eqb}
+use lib.ListN.{length, getD, take, drop, length-take, length-drop, List·getD-eq-default}
+use lib.Seq.{drop-cons, take-all, take-suc}
+use lib.Bits.{bitXor, xor-zero-r}
+use borrow.Author.Tests.{ltb-true, ltb-false, leb-true, le-leb, lt-leb, lt-ltb, eq-eqb, ne-eqb}
 use Rattle.checksum.specs.Xor.{xorAll}
-use Rattle.checksum.proofs.Laws.{xorAll-closed, xorAll-closes}
+use Rattle.checksum.proofs.Laws.{xorAll-nil, xorAll-cons, xorAll-append, xorAll-closed, xorAll-closes}
 use Rattle.message_rules.specs.declared.Address.{Address}
 use Rattle.message_rules.specs.declared.Direction.{Direction}
 use Rattle.message_rules.specs.Read.{Read, ok, refused, unless, require, after, andThen}
@@ -69,20 +69,26 @@ module _ (a : Address) (p : Bool) (s : List ℕ) where
   tail-sum h = rw (eq-eqb (getD s 1 0) (lengthByte p (bodyLength s)) h)
 
 -- the sum r that the code takes, of all bytes but the last: the last byte is r just where the sum of all is 0
-module _ (seed r n : ℕ) (s : List ℕ) (inside : bodyLength s + 3 ≤ length s) (e : n ≡ bodyLength s) (q : r ≡ xorAll seed (take (n + 2 - 0) s)) where
-  front-sum : xorAll seed (take (n + 2) s) ≡ r
-  front-sum = ap (λ (k : ℕ). xorAll seed (take k s)) (sym (sub-zero (n + 2))) ∙ sym q
-
-  whole-sum : xorAll seed (take (bodyLength s + 3) s) ≡ xorAll seed (take (n + 2) s ++ (getD s (n + 2) 0 ∷ []))
-  whole-sum =
-      let k : bodyLength s + 3 ≡ suc (n + 2) = omega arith in
-      ap (xorAll seed) (ap (λ (j : ℕ). take j s) k ∙ take-suc s (n + 2) 0 (omega arith))
+module _ (seed r n : ℕ) (s : List ℕ) (e : n ≡ bodyLength s) (q : r ≡ xorAll seed (take (n + 2) s)) where
+  -- where the slice ends before its last byte, that byte counts as 0
+  pub whole-sum : xorAll seed (take (bodyLength s + 3) s) ≡ xorAll seed (take (n + 2) s ++ (getD s (n + 2) 0 ∷ []))
+  whole-sum = go (ltb (n + 2) (length s)) refl
+    where
+      go : (b : Bool) → ltb (n + 2) (length s) ≡ b → xorAll seed (take (bodyLength s + 3) s) ≡ xorAll seed (take (n + 2) s ++ (getD s (n + 2) 0 ∷ []))
+      go true h =
+          let k : bodyLength s + 3 ≡ suc (n + 2) = omega arith in
+          ap (xorAll seed) (ap (λ (j : ℕ). take j s) k ∙ take-suc s (n + 2) 0 (ltb-true (n + 2) (length s) h))
+      go false h =
+          let short = ltb-false (n + 2) (length s) h in
+          let v : ℕ = xorAll seed (take (n + 2) s) in
+          ap (xorAll seed) (take-all (bodyLength s + 3) s (omega arith) ∙ sym (take-all (n + 2) s short))
+          ∙ sym (xorAll-append seed (take (n + 2) s) (getD s (n + 2) 0 ∷ []) ∙ ap (λ (b : ℕ). xorAll v (b ∷ [])) (List·getD-eq-default s 0 {n = n + 2} short) ∙ xorAll-cons v 0 [] ∙ xorAll-nil (bitXor v 0) ∙ xor-zero-r v)
 
   pub sum-right : r ≡ getD s (n + 2) 0 → xorAll seed (take (bodyLength s + 3) s) ≡ 0
-  sum-right h = whole-sum ∙ ap (λ (b : ℕ). xorAll seed (take (n + 2) s ++ (b ∷ []))) (sym h ∙ sym front-sum) ∙ xorAll-closed seed (take (n + 2) s)
+  sum-right h = whole-sum ∙ ap (λ (b : ℕ). xorAll seed (take (n + 2) s ++ (b ∷ []))) (sym h ∙ q) ∙ xorAll-closed seed (take (n + 2) s)
 
   pub sum-wrong : (r ≡ getD s (n + 2) 0 → ⊥) → xorAll seed (take (bodyLength s + 3) s) ≡ 0 → ⊥
-  sum-wrong h z = h (sym front-sum ∙ sym (xorAll-closes seed (take (n + 2) s) (getD s (n + 2) 0) (sym whole-sum ∙ z)))
+  sum-wrong h z = h (q ∙ sym (xorAll-closes seed (take (n + 2) s) (getD s (n + 2) 0) (sym whole-sum ∙ z)))
 
 -- ---- the frame's answer from its parts
 

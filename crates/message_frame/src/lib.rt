@@ -1,6 +1,6 @@
 // The frame of a message: first byte, length byte and checksum, for either direction and any pair of address bytes.
 ghost use mathlib.Core.Path.{_≡_};
-ghost use Prim.Native.Nat.{_+_, _≤_, _<_};
+ghost use Prim.Native.Nat.{_+_, _<_};
 ghost use mathlib.Core.Bool.{_&&_};
 ghost use lib.Dec.{ltb};
 ghost use lib.ListN.{length, getD};
@@ -9,6 +9,8 @@ ghost use Rattle.message_rules.specs.Frame.{bodyLength, fits, lengthByte};
 ghost use Rattle.message_rules.specs.Layout.{longest};
 ghost use Rattle.message_frame.specs.Parts.{headAnswer, tailAnswer};
 ghost use Rattle.message_frame.specs.Shape.{lengthRight};
+use buffers::front;
+use buffers::octet;
 use buffers::wide;
 use buffers::wide16;
 use message_rules::Address;
@@ -22,9 +24,11 @@ const FIRST_BYTE: Position = Position(0);
 
 const LENGTH_BYTE: Position = Position(1);
 
-pub const COMMAND: Position = Position(2);
+const COMMAND: Position = Position(2);
 
 // Returns the byte at a position.
+// It is for the fields of a body whose tests have shown that they are there, and so it has a `requires`.
+// The compiled code would keep a test of it here, where the tests of the frame need none.
 pub fn byte_at(s: &[u8], at: Position) -> u8
     requires { ⌜ at .0 < length (now s) ⌝ }
     ensures { λ r. ⌜ r ≡ getD (now (s .entry)) (at .0) 0 ⌝ }
@@ -33,7 +37,7 @@ pub fn byte_at(s: &[u8], at: Position) -> u8
     s[i]
 }
 
-// Returns the 16-bit word at a position, the high byte first.
+// Returns the 16-bit word at a position, the high byte first, likewise.
 pub fn word_at(s: &[u8], at: Position) -> u16
     requires { ⌜ at .0 + 1 < length (now s) ⌝ }
     ensures { λ r. ⌜ r ≡ word (now (s .entry)) (at .0) ⌝ }
@@ -42,12 +46,26 @@ pub fn word_at(s: &[u8], at: Position) -> u16
     wide16(s[i]) * 256 + wide16(s[i + 1])
 }
 
+// Returns the byte at a position, or 0 past the end.
+// Behind the test for three bytes the compiled code has no other.
+fn byte_or_zero(s: &[u8], at: Position) -> u8
+    ensures { λ r. ⌜ r ≡ getD (now (s .entry)) (at .0) 0 ⌝ }
+{
+    octet(s, at.0)
+}
+
+// Returns the byte where a body has its command number.
+pub fn command(s: &[u8]) -> u8
+    ensures { λ r. ⌜ r ≡ getD (now (s .entry)) 2 0 ⌝ }
+{
+    byte_or_zero(s, COMMAND)
+}
+
 // Returns the length of the body by the length byte, in either form.
 pub fn body_length(s: &[u8]) -> usize
-    requires { ⌜ 1 < length (now s) ⌝ }
     ensures { λ r. ⌜ (r ≡ bodyLength (now (s .entry))) × (r < 128) ⌝ }
 {
-    wide(byte_at(s, LENGTH_BYTE)) % 128
+    wide(byte_or_zero(s, LENGTH_BYTE)) % 128
 }
 
 // Returns the length byte of a body of n bytes, in either form.
@@ -89,7 +107,7 @@ pub fn head_answer(direction: Direction, a: Address, s: &[u8]) -> u8
         return answer::TOO_SHORT;
     }
     let first = a.first;
-    if byte_at(s, FIRST_BYTE) != first {
+    if byte_or_zero(s, FIRST_BYTE) != first {
         return answer::WRONG_FIRST_BYTE;
     }
     let n = body_length(s);
@@ -107,16 +125,16 @@ pub fn head_answer(direction: Direction, a: Address, s: &[u8]) -> u8
 // It is 0 if none fails.
 // The last byte is compared with the checksum of those in front of it.
 // A sum that is only compared with 0 is not taken several bytes at a time in the compiled code.
+// A slice that ends before its last byte counts as one that has 0 there: behind the head's tests there is none.
 pub fn tail_answer(a: Address, plain: bool, s: &[u8]) -> u8
-    requires { ⌜ (1 < length (now s)) × (bodyLength (now s) + 3 ≤ length (now s)) ⌝ }
     ensures { λ r. ⌜ r ≡ tailAnswer a plain (now (s .entry)) ⌝ }
 {
     let n = body_length(s);
-    if wide(byte_at(s, LENGTH_BYTE)) != length_byte(plain, n) {
+    if wide(byte_or_zero(s, LENGTH_BYTE)) != length_byte(plain, n) {
         return answer::WRONG_LENGTH;
     }
     let seed = a.seed;
-    if checksum::checksum(seed, &s[0..n + 2]) != byte_at(s, Position(n + 2)) {
+    if checksum::checksum(seed, front(s, n + 2)) != byte_or_zero(s, Position(n + 2)) {
         return answer::WRONG_CHECKSUM;
     }
     answer::DONE

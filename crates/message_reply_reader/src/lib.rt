@@ -150,7 +150,7 @@ fn tested(a: Address, s: &[u8]) -> ReplyVerdict
         return ReplyVerdict::Refused(head);
     }
     let n = message_frame::body_length(s);
-    let row = table::reply_row(message_frame::byte_at(s, message_frame::COMMAND), n);
+    let row = table::reply_row(message_frame::command(s), n);
     let plain = message_frame::body_plain(row.plain, n);
     let tail = message_frame::tail_answer(a, plain, s);
     if tail != answer::DONE {

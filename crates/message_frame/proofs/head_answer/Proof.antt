@@ -16,11 +16,11 @@ use Rattle.message_frame.proofs.head_answer.Tie as tie
 returns : tie.Need-returns
 returns c = let a = c .before .before .args in sym (head-short (a .direction) (a .a) (a .s .now) (c .if1 .taken))
 
-byte-at-requires : tie.Need-byte-at-requires
-byte-at-requires c κs = search needs
+byte-or-zero-requires : tie.Need-byte-or-zero-requires
+byte-or-zero-requires c κs = search needs
 
 returns-2 : tie.Need-returns-2
-returns-2 c = let a = c .before .before .before .before .args in sym (head-first (a .direction) (a .a) (a .s .now) (omega arith) (λ e. c .if2 .taken (c .before .byte-at .ensures ∙ e)))
+returns-2 c = let a = c .before .before .before .before .args in sym (head-first (a .direction) (a .a) (a .s .now) (omega arith) (λ e. c .if2 .taken (c .before .byte-or-zero .ensures ∙ e)))
 
 body-length-requires : tie.Need-body-length-requires
 body-length-requires c κs = search needs
@@ -31,7 +31,7 @@ longest-body-requires c κs = search needs
 returns-3 : tie.Need-returns-3
 returns-3 c =
     let a = c .before .before .before .before .before .before .before .args in
-    sym (head-length (a .direction) (a .a) (a .s .now) (omega arith) (sym (c .before .before .before .before .byte-at .ensures) ∙ c .before .before .before .if2 .left)
+    sym (head-length (a .direction) (a .a) (a .s .now) (omega arith) (sym (c .before .before .before .before .byte-or-zero .ensures) ∙ c .before .before .before .if2 .left)
     ∙ rw (lt-leb (bodyLength (a .s .now)) (longest (a .direction)) (omega (arith, c .before .before .body-length .ensures .0, c .before .longest-body .ensures))))
 
 add-fits-slice : tie.Need-add-fits-slice
@@ -44,14 +44,14 @@ returns-4 : tie.Need-returns-4
 returns-4 c =
     let a = c .before .before .before .before .before .before .before .before .before .args in
     let f : fits (a .direction) (bodyLength (a .s .now) + 3) (length (a .s .now)) ≡ true = rw (← c .before .before .before .before .body-length .ensures .0) (sym (c .before .fits-slice .ensures) ∙ c .if4 .taken) in
-    sym (head-length (a .direction) (a .a) (a .s .now) (omega arith) (sym (c .before .before .before .before .before .before .byte-at .ensures) ∙ c .before .before .before .before .before .if2 .left)
+    sym (head-length (a .direction) (a .a) (a .s .now) (omega arith) (sym (c .before .before .before .before .before .before .byte-or-zero .ensures) ∙ c .before .before .before .before .before .if2 .left)
     ∙ rw (le-leb (bodyLength (a .s .now)) (longest (a .direction)) (omega (arith, c .before .before .before .before .body-length .ensures .0, c .before .before .before .longest-body .ensures)), f))
 
 returns-5 : tie.Need-returns-5
 returns-5 c =
     let a = c .before .before .before .before .before .before .before .before .before .args in
     let f : fits (a .direction) (bodyLength (a .s .now) + 3) (length (a .s .now)) ≡ false = rw (← c .before .before .before .before .body-length .ensures .0) (sym (c .before .fits-slice .ensures) ∙ c .if4 .left) in
-    sym (head-length (a .direction) (a .a) (a .s .now) (omega arith) (sym (c .before .before .before .before .before .before .byte-at .ensures) ∙ c .before .before .before .before .before .if2 .left)
+    sym (head-length (a .direction) (a .a) (a .s .now) (omega arith) (sym (c .before .before .before .before .before .before .byte-or-zero .ensures) ∙ c .before .before .before .before .before .if2 .left)
     ∙ rw (le-leb (bodyLength (a .s .now)) (longest (a .direction)) (omega (arith, c .before .before .before .before .body-length .ensures .0, c .before .before .before .longest-body .ensures)), f))
 
 pub head-answer-spec : {M : Type 1} → statement M
@@ -59,7 +59,7 @@ head-answer-spec =
     tie.close
     (tie.spec
     returns
-    byte-at-requires
+    byte-or-zero-requires
     returns-2
     body-length-requires
     longest-body-requires

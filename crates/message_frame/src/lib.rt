@@ -1,10 +1,9 @@
 // The frame of a message: first byte, length byte and checksum, for either direction and any pair of address bytes.
 ghost use mathlib.Core.Path.{_≡_};
-ghost use Prim.Native.Nat.{_+_, _<_};
+ghost use Prim.Native.Nat.{_<_};
 ghost use mathlib.Core.Bool.{_&&_};
 ghost use lib.Dec.{ltb};
-ghost use lib.ListN.{length, getD};
-ghost use Rattle.message_rules.specs.Body.{word};
+ghost use lib.ListN.{getD};
 ghost use Rattle.message_rules.specs.Frame.{bodyLength, fits, lengthByte};
 ghost use Rattle.message_rules.specs.Layout.{longest};
 ghost use Rattle.message_frame.specs.Parts.{headAnswer, tailAnswer};
@@ -12,7 +11,6 @@ ghost use Rattle.message_frame.specs.Shape.{lengthRight};
 use buffers::front;
 use buffers::octet;
 use buffers::wide;
-use buffers::wide16;
 use message_rules::Address;
 use message_rules::Direction;
 use message_rules::Position;
@@ -26,28 +24,8 @@ const LENGTH_BYTE: Position = Position(1);
 
 const COMMAND: Position = Position(2);
 
-// Returns the byte at a position.
-// It is for the fields of a body whose tests have shown that they are there, and so it has a `requires`.
-// The compiled code would keep a test of it here, where the tests of the frame need none.
-pub fn byte_at(s: &[u8], at: Position) -> u8
-    requires { ⌜ at .0 < length (now s) ⌝ }
-    ensures { λ r. ⌜ r ≡ getD (now (s .entry)) (at .0) 0 ⌝ }
-{
-    let i = at.0;
-    s[i]
-}
-
-// Returns the 16-bit word at a position, the high byte first, likewise.
-pub fn word_at(s: &[u8], at: Position) -> u16
-    requires { ⌜ at .0 + 1 < length (now s) ⌝ }
-    ensures { λ r. ⌜ r ≡ word (now (s .entry)) (at .0) ⌝ }
-{
-    let i = at.0;
-    wide16(s[i]) * 256 + wide16(s[i + 1])
-}
-
 // Returns the byte at a position, or 0 past the end.
-// Behind the test for three bytes the compiled code has no other.
+// The head's tests come first, and behind them the compiled code has no test of this.
 fn byte_or_zero(s: &[u8], at: Position) -> u8
     ensures { λ r. ⌜ r ≡ getD (now (s .entry)) (at .0) 0 ⌝ }
 {

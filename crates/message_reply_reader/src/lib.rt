@@ -2,6 +2,9 @@
 mod table;
 
 ghost use mathlib.Core.Path.{_≡_};
+ghost use Prim.Native.Nat.{_+_, _<_};
+ghost use lib.ListN.{length, getD};
+ghost use Rattle.message_rules.specs.Body.{word};
 ghost use Rattle.message_rules.specs.Message.{decode, replies, toHost};
 ghost use Rattle.message_rules.specs.Row as row;
 ghost use Rattle.message_rules.specs.declared.ReplyKind.the-variants as kinds;
@@ -10,6 +13,7 @@ ghost use Rattle.message_frame.specs.Meaning.{Readable};
 ghost use Rattle.message_frame.specs.Parts.{bodyIn};
 ghost use Rattle.message_reply_reader.specs.Start.{startsWith, nullBytes};
 use crate::table::ReplyVerdict;
+use buffers::wide16;
 use message_rules::Address;
 use message_rules::Direction;
 use message_rules::Position;
@@ -71,16 +75,36 @@ const OFFSET: Position = Position(3);
 
 const DATA: Position = Position(5);
 
+// Returns the byte at a position.
+// For fields, whose tests have shown that they are there: the compiled code would keep a test that message_frame's
+// functions do not.
+fn byte_at(s: &[u8], at: Position) -> u8
+    requires { ⌜ at .0 < length (now s) ⌝ }
+    ensures { λ r. ⌜ r ≡ getD (now (s .entry)) (at .0) 0 ⌝ }
+{
+    let i = at.0;
+    s[i]
+}
+
+// Returns the 16-bit word at a position, the high byte first.
+fn word_at(s: &[u8], at: Position) -> u16
+    requires { ⌜ at .0 + 1 < length (now s) ⌝ }
+    ensures { λ r. ⌜ r ≡ word (now (s .entry)) (at .0) ⌝ }
+{
+    let i = at.0;
+    wide16(s[i]) * 256 + wide16(s[i + 1])
+}
+
 // Returns a Value whose length is right, or 7 for a result or a type that is not allowed.
 fn value_in(s: &[u8]) -> ReplyRead
     requires { ⌜ Readable (row.Reply kinds.Value) (now s) ⌝ }
     ensures { λ r. ⌜ ReplyMeans (now (s .entry)) r (bodyIn replies (row.Reply kinds.Value) (now (s .entry))) ⌝ }
 {
-    let result = message_frame::byte_at(s, RESULT);
-    let code = message_frame::byte_at(s, CODE);
-    let kind = message_frame::byte_at(s, TYPE);
-    let max = message_frame::word_at(s, MAXIMUM);
-    let present = message_frame::word_at(s, PRESENT);
+    let result = byte_at(s, RESULT);
+    let code = byte_at(s, CODE);
+    let kind = byte_at(s, TYPE);
+    let max = word_at(s, MAXIMUM);
+    let present = word_at(s, PRESENT);
     if value_allowed(result, kind) {
         return ReplyRead::Value {
             result,
@@ -98,9 +122,9 @@ fn timing_in(s: &[u8]) -> ReplyRead
     requires { ⌜ Readable (row.Reply kinds.TimingReply) (now s) ⌝ }
     ensures { λ r. ⌜ ReplyMeans (now (s .entry)) r (bodyIn replies (row.Reply kinds.TimingReply) (now (s .entry))) ⌝ }
 {
-    let status = message_frame::byte_at(s, STATUS);
-    let horizontal = message_frame::word_at(s, HORIZONTAL);
-    let vertical = message_frame::word_at(s, VERTICAL);
+    let status = byte_at(s, STATUS);
+    let horizontal = word_at(s, HORIZONTAL);
+    let vertical = word_at(s, VERTICAL);
     if status_allowed(status) {
         return ReplyRead::Timing {
             status,
@@ -120,7 +144,7 @@ fn fields(kind: ReplyKind, s: &[u8]) -> ReplyRead
         ReplyKind::Value => value_in(s),
         ReplyKind::TimingReply => timing_in(s),
         ReplyKind::TextFragment => {
-            let offset = TextOffset(message_frame::word_at(s, OFFSET));
+            let offset = TextOffset(word_at(s, OFFSET));
             let len = message_frame::body_length(s) - 3;
             ReplyRead::TextFragment {
                 offset,
@@ -129,7 +153,7 @@ fn fields(kind: ReplyKind, s: &[u8]) -> ReplyRead
             }
         }
         ReplyKind::TableFragment => {
-            let offset = TextOffset(message_frame::word_at(s, OFFSET));
+            let offset = TextOffset(word_at(s, OFFSET));
             let len = message_frame::body_length(s) - 3;
             ReplyRead::TableFragment {
                 offset,

@@ -1,12 +1,17 @@
 // The reader of requests, the messages to the display, proved equal to message_rules' `decode`.
 mod table;
 
+ghost use mathlib.Core.Path.{_≡_};
+ghost use Prim.Native.Nat.{_+_, _<_};
+ghost use lib.ListN.{length, getD};
+ghost use Rattle.message_rules.specs.Body.{word};
 ghost use Rattle.message_rules.specs.Message.{decode, requests};
 ghost use Rattle.message_rules.specs.Row as row;
 ghost use Rattle.message_request_reader.specs.Outcome.{RequestMeans, RequestHolds};
 ghost use Rattle.message_frame.specs.Meaning.{Readable};
 ghost use Rattle.message_frame.specs.Parts.{bodyIn};
 use crate::table::RequestVerdict;
+use buffers::wide16;
 use message_rules::Address;
 use message_rules::Direction;
 use message_rules::Position;
@@ -49,30 +54,50 @@ const TABLE_OFFSET: Position = Position(4);
 
 const DATA: Position = Position(6);
 
+// Returns the byte at a position.
+// For fields, whose tests have shown that they are there: the compiled code would keep a test that message_frame's
+// functions do not.
+fn byte_at(s: &[u8], at: Position) -> u8
+    requires { ⌜ at .0 < length (now s) ⌝ }
+    ensures { λ r. ⌜ r ≡ getD (now (s .entry)) (at .0) 0 ⌝ }
+{
+    let i = at.0;
+    s[i]
+}
+
+// Returns the 16-bit word at a position, the high byte first.
+fn word_at(s: &[u8], at: Position) -> u16
+    requires { ⌜ at .0 + 1 < length (now s) ⌝ }
+    ensures { λ r. ⌜ r ≡ word (now (s .entry)) (at .0) ⌝ }
+{
+    let i = at.0;
+    wide16(s[i]) * 256 + wide16(s[i + 1])
+}
+
 // Returns the fields of a body of this kind, whose length is right.
 fn fields(kind: RequestKind, s: &[u8]) -> RequestRead
     requires { ⌜ Readable (row.Request kind) (now s) ⌝ }
     ensures { λ r. ⌜ RequestMeans (now (s .entry)) r (bodyIn requests (row.Request kind) (now (s .entry))) ⌝ }
 {
     match kind {
-        RequestKind::Get => RequestRead::Get(message_frame::byte_at(s, CODE)),
+        RequestKind::Get => RequestRead::Get(byte_at(s, CODE)),
         RequestKind::Set => {
-            let code = message_frame::byte_at(s, CODE);
-            let value = message_frame::word_at(s, VALUE);
+            let code = byte_at(s, CODE);
+            let value = word_at(s, VALUE);
             RequestRead::Set { code, value }
         }
         RequestKind::Timing => RequestRead::Timing,
         RequestKind::Save => RequestRead::Save,
-        RequestKind::Text => RequestRead::Text(TextOffset(message_frame::word_at(s, TEXT_OFFSET))),
+        RequestKind::Text => RequestRead::Text(TextOffset(word_at(s, TEXT_OFFSET))),
         RequestKind::TableRead => {
-            let offset = TextOffset(message_frame::word_at(s, TABLE_OFFSET));
-            let code = message_frame::byte_at(s, CODE);
+            let offset = TextOffset(word_at(s, TABLE_OFFSET));
+            let code = byte_at(s, CODE);
             RequestRead::TableRead { code, offset }
         }
         RequestKind::TableWrite => {
-            let offset = TextOffset(message_frame::word_at(s, TABLE_OFFSET));
+            let offset = TextOffset(word_at(s, TABLE_OFFSET));
             let len = message_frame::body_length(s) - 4;
-            let code = message_frame::byte_at(s, CODE);
+            let code = byte_at(s, CODE);
             RequestRead::TableWrite {
                 code,
                 offset,

@@ -2,8 +2,8 @@
 use crate::requests;
 use day_line::Frame;
 use day_report::messages;
-use message_reader::ReplyRead;
-use message_reader::reply::read_display_reply;
+use message_reply_reader::ReplyRead;
+use message_reply_reader::read_display_reply;
 use message_rules::answer;
 
 // A message of the tent, with what should come of it.

@@ -11,14 +11,15 @@ use Rattle.message_rules.specs.declared.RequestKind.{RequestKind}
 use Rattle.message_rules.specs.declared.RequestKind.the-variants as requestRow
 use Rattle.message_rules.specs.declared.ReplyKind.{ReplyKind}
 use Rattle.message_rules.specs.declared.ReplyKind.the-variants as replyRow
-use Rattle.message_reader.specs.Outcome.{RequestMeans, ReplyMeans}
-use Rattle.message_builder.specs.Output.{Builds, admits}
-use Rattle.message_builder.specs.declared.Built.{Built}
-use Rattle.message_builder.specs.declared.Built.the-variants as built
-use Rattle.message_reader.specs.declared.RequestRead.{RequestRead}
-use Rattle.message_reader.specs.declared.RequestRead.the-variants as request
-use Rattle.message_reader.specs.declared.ReplyRead.{ReplyRead}
-use Rattle.message_reader.specs.declared.ReplyRead.the-variants as reply
+use Rattle.message_request_reader.specs.Outcome.{RequestMeans}
+use Rattle.message_reply_reader.specs.Outcome.{ReplyMeans}
+use Rattle.message_output.specs.Output.{Builds, admits}
+use Rattle.message_output.specs.declared.Built.{Built}
+use Rattle.message_output.specs.declared.Built.the-variants as built
+use Rattle.message_request_reader.specs.declared.RequestRead.{RequestRead}
+use Rattle.message_request_reader.specs.declared.RequestRead.the-variants as request
+use Rattle.message_reply_reader.specs.declared.ReplyRead.{ReplyRead}
+use Rattle.message_reply_reader.specs.declared.ReplyRead.the-variants as reply
 use Rattle.ddcci.specs.declared.BuiltNumbers.{BuiltNumbers}
 use Rattle.ddcci.specs.declared.request.RequestNumbers.{RequestNumbers}
 use Rattle.ddcci.specs.declared.reply.ReplyNumbers.{ReplyNumbers}

@@ -8,7 +8,7 @@ pub mod transfers;
 ghost use mathlib.Core.Path.{_≡_};
 ghost use Rattle.checksum.specs.Xor.{xorAll};
 ghost use Rattle.ddcci.specs.Numbers.{builtNumbers};
-use message_builder::Built;
+use message_output::Built;
 use message_rules::answer;
 
 // What a builder returns.

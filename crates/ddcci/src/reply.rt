@@ -6,10 +6,9 @@ ghost use mathlib.Core.Bool.{true};
 ghost use Rattle.message_rules.specs.Message.{replies, toHost, null, value, timingReply, textFragment, tableFragment};
 ghost use Rattle.ddcci.specs.Numbers.{fieldNumbers, fragmentNumbers, replyNumbers, BuildsNumbers, BuildsMessageNumbers, ReadsReply};
 use crate::BuiltNumbers;
-use message_builder::reply;
-use message_reader::ReplyRead;
-use message_reader::reply::is_null;
-use message_reader::reply::read_reply;
+use message_reply_reader::ReplyRead;
+use message_reply_reader::is_null;
+use message_reply_reader::read_reply;
 use message_rules::TO_HOST;
 use message_rules::TextOffset;
 use message_rules::answer;
@@ -127,7 +126,15 @@ pub extern "C" fn ddcci_build_value(
 ) -> BuiltNumbers
     ensures { λ r. ⌜ BuildsMessageNumbers replies toHost (value result code kind max present) (now (out .entry)) (now (out .exit)) r ⌝ }
 {
-    crate::built_numbers(reply::build_value(TO_HOST, result, code, kind, max, present, out))
+    crate::built_numbers(message_reply_builder::build_value(
+        TO_HOST,
+        result,
+        code,
+        kind,
+        max,
+        present,
+        out,
+    ))
 }
 
 // Builds a Timing reply: status, horizontal and vertical frequency.
@@ -141,7 +148,13 @@ pub extern "C" fn ddcci_build_timing_reply(
 ) -> BuiltNumbers
     ensures { λ r. ⌜ BuildsMessageNumbers replies toHost (timingReply status horizontal vertical) (now (out .entry)) (now (out .exit)) r ⌝ }
 {
-    crate::built_numbers(reply::build_timing_reply(TO_HOST, status, horizontal, vertical, out))
+    crate::built_numbers(message_reply_builder::build_timing_reply(
+        TO_HOST,
+        status,
+        horizontal,
+        vertical,
+        out,
+    ))
 }
 
 // Builds a fragment of the capabilities string: its offset and its data.
@@ -154,7 +167,12 @@ pub extern "C" fn ddcci_build_text_fragment(
 ) -> BuiltNumbers
     ensures { λ r. ⌜ BuildsMessageNumbers replies toHost (textFragment offset (now («data» .entry))) (now (out .entry)) (now (out .exit)) r ⌝ }
 {
-    crate::built_numbers(reply::build_text_fragment(TO_HOST, TextOffset(offset), data, out))
+    crate::built_numbers(message_reply_builder::build_text_fragment(
+        TO_HOST,
+        TextOffset(offset),
+        data,
+        out,
+    ))
 }
 
 // Builds a fragment of the table: its offset and its data.
@@ -167,7 +185,12 @@ pub extern "C" fn ddcci_build_table_fragment(
 ) -> BuiltNumbers
     ensures { λ r. ⌜ BuildsMessageNumbers replies toHost (tableFragment offset (now («data» .entry))) (now (out .entry)) (now (out .exit)) r ⌝ }
 {
-    crate::built_numbers(reply::build_table_fragment(TO_HOST, TextOffset(offset), data, out))
+    crate::built_numbers(message_reply_builder::build_table_fragment(
+        TO_HOST,
+        TextOffset(offset),
+        data,
+        out,
+    ))
 }
 
 // Builds the null message: 6E 80 BE.
@@ -175,5 +198,5 @@ pub extern "C" fn ddcci_build_table_fragment(
 pub extern "C" fn ddcci_build_null(out: &mut [u8]) -> BuiltNumbers
     ensures { λ r. ⌜ BuildsNumbers true (null toHost) (now (out .entry)) (now (out .exit)) r ⌝ }
 {
-    crate::built_numbers(reply::build_null(out))
+    crate::built_numbers(message_reply_builder::build_null(out))
 }

@@ -5,9 +5,8 @@ ghost use mathlib.Core.Path.{_≡_};
 ghost use Rattle.message_rules.specs.Message.{requests, toDisplay, getFeature, setFeature, timing, save, text, tableRead, tableWrite};
 ghost use Rattle.ddcci.specs.Numbers.{requestFields, requestNumbers, BuildsMessageNumbers, ReadsRequest};
 use crate::BuiltNumbers;
-use message_builder::request;
-use message_reader::RequestRead;
-use message_reader::request::read_request;
+use message_request_reader::RequestRead;
+use message_request_reader::read_request;
 use message_rules::TO_DISPLAY;
 use message_rules::TextOffset;
 use message_rules::answer;
@@ -91,7 +90,7 @@ pub extern "C" fn ddcci_read_request(message: &[u8]) -> RequestNumbers
 pub extern "C" fn ddcci_build_get(code: u8, out: &mut [u8]) -> BuiltNumbers
     ensures { λ r. ⌜ BuildsMessageNumbers requests toDisplay (getFeature code) (now (out .entry)) (now (out .exit)) r ⌝ }
 {
-    crate::built_numbers(request::build_get(TO_DISPLAY, code, out))
+    crate::built_numbers(message_request_builder::build_get(TO_DISPLAY, code, out))
 }
 
 // Builds a Set, which sets a code to a value.
@@ -99,7 +98,7 @@ pub extern "C" fn ddcci_build_get(code: u8, out: &mut [u8]) -> BuiltNumbers
 pub extern "C" fn ddcci_build_set(code: u8, value: u16, out: &mut [u8]) -> BuiltNumbers
     ensures { λ r. ⌜ BuildsMessageNumbers requests toDisplay (setFeature code value) (now (out .entry)) (now (out .exit)) r ⌝ }
 {
-    crate::built_numbers(request::build_set(TO_DISPLAY, code, value, out))
+    crate::built_numbers(message_request_builder::build_set(TO_DISPLAY, code, value, out))
 }
 
 // Builds a Timing, which asks for the timing.
@@ -107,7 +106,7 @@ pub extern "C" fn ddcci_build_set(code: u8, value: u16, out: &mut [u8]) -> Built
 pub extern "C" fn ddcci_build_timing(out: &mut [u8]) -> BuiltNumbers
     ensures { λ r. ⌜ BuildsMessageNumbers requests toDisplay timing (now (out .entry)) (now (out .exit)) r ⌝ }
 {
-    crate::built_numbers(request::build_timing(TO_DISPLAY, out))
+    crate::built_numbers(message_request_builder::build_timing(TO_DISPLAY, out))
 }
 
 // Builds a Save, which saves every present value.
@@ -115,7 +114,7 @@ pub extern "C" fn ddcci_build_timing(out: &mut [u8]) -> BuiltNumbers
 pub extern "C" fn ddcci_build_save(out: &mut [u8]) -> BuiltNumbers
     ensures { λ r. ⌜ BuildsMessageNumbers requests toDisplay save (now (out .entry)) (now (out .exit)) r ⌝ }
 {
-    crate::built_numbers(request::build_save(TO_DISPLAY, out))
+    crate::built_numbers(message_request_builder::build_save(TO_DISPLAY, out))
 }
 
 // Builds a Text, which asks for the fragment of the capabilities string at an offset.
@@ -123,7 +122,7 @@ pub extern "C" fn ddcci_build_save(out: &mut [u8]) -> BuiltNumbers
 pub extern "C" fn ddcci_build_text(offset: u16, out: &mut [u8]) -> BuiltNumbers
     ensures { λ r. ⌜ BuildsMessageNumbers requests toDisplay (text offset) (now (out .entry)) (now (out .exit)) r ⌝ }
 {
-    crate::built_numbers(request::build_text(TO_DISPLAY, TextOffset(offset), out))
+    crate::built_numbers(message_request_builder::build_text(TO_DISPLAY, TextOffset(offset), out))
 }
 
 // Builds a Table read, which asks for the fragment of the table at an offset.
@@ -131,7 +130,12 @@ pub extern "C" fn ddcci_build_text(offset: u16, out: &mut [u8]) -> BuiltNumbers
 pub extern "C" fn ddcci_build_table_read(code: u8, offset: u16, out: &mut [u8]) -> BuiltNumbers
     ensures { λ r. ⌜ BuildsMessageNumbers requests toDisplay (tableRead code offset) (now (out .entry)) (now (out .exit)) r ⌝ }
 {
-    crate::built_numbers(request::build_table_read(TO_DISPLAY, code, TextOffset(offset), out))
+    crate::built_numbers(message_request_builder::build_table_read(
+        TO_DISPLAY,
+        code,
+        TextOffset(offset),
+        out,
+    ))
 }
 
 // Builds a Table write, which writes data into the table at an offset.
@@ -145,7 +149,7 @@ pub extern "C" fn ddcci_build_table_write(
 ) -> BuiltNumbers
     ensures { λ r. ⌜ BuildsMessageNumbers requests toDisplay (tableWrite code offset (now («data» .entry))) (now (out .entry)) (now (out .exit)) r ⌝ }
 {
-    crate::built_numbers(request::build_table_write(
+    crate::built_numbers(message_request_builder::build_table_write(
         TO_DISPLAY,
         code,
         TextOffset(offset),

@@ -6,7 +6,7 @@ use Prim.Native.Nat.{ℕ}
 use lib.Dec.{eqb}
 use Rattle.message_rules.specs.Message.{replies, encode}
 use Rattle.message_rules.specs.declared.Address.{Address}
-use Rattle.message_builder.specs.Output.{builtAnswer, builtOutput}
+use Rattle.message_output.specs.Output.{builtAnswer, builtOutput}
 use Rattle.settings_rules.specs.Settings.{reservedBits, timingIn}
 use Rattle.settings_rules.specs.declared.Settings.{Settings}
 use Rattle.display_rules.specs.Turn.{timingOf}

@@ -10,8 +10,7 @@ ghost use Rattle.display_pending.specs.Pending.{pendingSet};
 ghost use Rattle.display_device.specs.Timing.{SendsTiming};
 use display_pending::Pending;
 use display_pending::send;
-use message_builder::Built;
-use message_builder::reply;
+use message_output::Built;
 use message_rules::Address;
 use message_rules::answer;
 use settings_rules::Settings;
@@ -22,7 +21,15 @@ pub fn get(a: Address, s: Settings, code: u8, out: &mut [u8]) -> usize
     ensures { λ r. ⌜ Sent true (encode replies a (featureReply (getCode s code))) (now (out .entry)) (now (out .exit)) r ⌝ }
 {
     let v = settings::get(s, code);
-    let built = reply::build_value(a, v.result, v.code, v.kind, v.maximum, v.present, out);
+    let built = message_reply_builder::build_value(
+        a,
+        v.result,
+        v.code,
+        v.kind,
+        v.maximum,
+        v.present,
+        out,
+    );
     send::length_of(built)
 }
 
@@ -45,7 +52,13 @@ pub fn set(s: Settings, code: u8, value: u16) -> Pending
 pub fn timing(a: Address, s: Settings, out: &mut [u8]) -> Pending
     ensures { λ r. ⌜ SendsTiming a s (now (out .entry)) (now (out .exit)) r ⌝ }
 {
-    let built = reply::build_timing_reply(a, s.status, s.horizontal, s.vertical, out);
+    let built = message_reply_builder::build_timing_reply(
+        a,
+        s.status,
+        s.horizontal,
+        s.vertical,
+        out,
+    );
     match built {
         Built::Done(n) => Pending::Replied(n),
         Built::Refused(answer) => Pending::Refused(answer, 0),

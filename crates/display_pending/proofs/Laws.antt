@@ -10,8 +10,8 @@ use Rattle.message_rules.specs.Answer.{done}
 use Rattle.message_rules.specs.Limits.{outputRoom}
 use Rattle.message_rules.specs.Message.{setFeature}
 use Rattle.buffers.specs.Buffers.{over}
-use Rattle.message_builder.specs.Output.{Builds}
-use Rattle.message_builder.specs.declared.Built.{Built}
+use Rattle.message_output.specs.Output.{Builds}
+use Rattle.message_output.specs.declared.Built.{Built}
 use Rattle.codes.specs.Codes.{member}
 use Rattle.settings_rules.specs.Settings.{withPresent, setAnswer, judgeSet, setCode}
 use Rattle.settings_rules.proofs.Answers.{both}

@@ -8,8 +8,8 @@ use lib.Dec.{eqb}
 use Rattle.message_rules.specs.Answer.{done, wrongSize}
 use Rattle.message_rules.specs.Message.{Request, getFeature, setFeature, timing, save, text, tableRead, tableWrite, requests, decode, toDisplay}
 use Rattle.message_rules.specs.Read.{Read, ok, refused}
-use Rattle.message_builder.specs.declared.Built.{Built}
-use Rattle.message_builder.specs.declared.Built.the-variants as built
+use Rattle.message_output.specs.declared.Built.{Built}
+use Rattle.message_output.specs.declared.Built.the-variants as built
 use Rattle.settings_rules.specs.Settings.{judgeSet, withPresent, saveAll}
 use Rattle.settings_rules.specs.declared.Judgement.{Judgement}
 use Rattle.settings_rules.specs.declared.Settings.{Settings}

@@ -3,9 +3,9 @@ use Prim.Native.Nat.{ℕ}
 use mathlib.Core.Path.{_≡_}
 use mathlib.Core.Bool.{Bool}
 use mathlib.Core.List.{List}
-use Rattle.message_builder.specs.Output.{builtAnswer, builtOutput}
-use Rattle.message_builder.specs.declared.Built.{Built}
-use Rattle.message_builder.specs.declared.Built.the-variants.{Done, Refused}
+use Rattle.message_output.specs.Output.{builtAnswer, builtOutput}
+use Rattle.message_output.specs.declared.Built.{Built}
+use Rattle.message_output.specs.declared.Built.the-variants.{Done, Refused}
 
 -- "Where no reply is due its length is 0"
 abbrev pub builtLength : Built → ℕ

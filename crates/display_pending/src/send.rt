@@ -3,8 +3,7 @@ ghost use mathlib.Core.Path.{_≡_};
 ghost use mathlib.Core.Bool.{true};
 ghost use Rattle.message_rules.specs.Message as messages;
 ghost use Rattle.display_pending.specs.Send.{builtLength, Sent};
-use message_builder::Built;
-use message_builder::reply;
+use message_output::Built;
 
 // Returns the length of what was built, 0 where nothing was.
 pub fn length_of(built: Built) -> usize
@@ -20,5 +19,5 @@ pub fn length_of(built: Built) -> usize
 pub fn null(out: &mut [u8]) -> usize
     ensures { λ r. ⌜ Sent true (messages.null messages.toHost) (now (out .entry)) (now (out .exit)) r ⌝ }
 {
-    length_of(reply::build_null(out))
+    length_of(message_reply_builder::build_null(out))
 }

@@ -9,7 +9,7 @@ use Rattle.message_rules.specs.Answer.{done, codeNotAllowed}
 use Rattle.message_rules.specs.Message.{tableCode, null, toHost}
 use Rattle.message_rules.specs.declared.TextKind.{TextKind}
 use Rattle.message_rules.specs.declared.TextKind.the-variants.{Table}
-use Rattle.message_builder.specs.Output.{builtAnswer, builtOutput}
+use Rattle.message_output.specs.Output.{builtAnswer, builtOutput}
 use Rattle.display_rules.specs.Turn.{bytesOf}
 use Rattle.display_rules.specs.Fragments.{foundBytes, fragmentReply}
 use Rattle.display_rules.specs.Table.{lengthAfter, written}

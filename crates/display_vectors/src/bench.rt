@@ -5,8 +5,7 @@ use buffers::octet;
 use buffers::part;
 use ddcci_display::ddcci_display_step;
 use display_rules::Display;
-use message_builder::Built;
-use message_builder::request;
+use message_output::Built;
 use message_rules::TABLE_CODE;
 use message_rules::TO_DISPLAY;
 use message_rules::TextOffset;
@@ -147,7 +146,7 @@ fn write_part(b: Bench, k: u16) -> Bench {
     let n = if part == WRITES - 1 { 1 } else { MOST_WRITTEN };
     let mut m = [0u8; OUTPUT_ROOM];
     let at = part * MOST_WRITTEN as u16;
-    let built = request::build_table_write(
+    let built = message_request_builder::build_table_write(
         TO_DISPLAY,
         TABLE_CODE,
         TextOffset(at),
@@ -186,7 +185,12 @@ pub(crate) fn expected() -> [u8; TABLE_BYTES] {
 // Returns the bench after a Table read at an offset.
 fn read(b: Bench, at: u16) -> Bench {
     let mut m = [0u8; OUTPUT_ROOM];
-    let built = request::build_table_read(TO_DISPLAY, TABLE_CODE, TextOffset(at), &mut m);
+    let built = message_request_builder::build_table_read(
+        TO_DISPLAY,
+        TABLE_CODE,
+        TextOffset(at),
+        &mut m,
+    );
     obey(b, front(&m, length_of(built)))
 }
 

@@ -4,10 +4,9 @@ use crate::pipe;
 use crate::pipe::Host;
 use buffers::behind;
 use buffers::front;
-use message_builder::Built;
-use message_builder::request;
-use message_reader::ReplyRead;
-use message_reader::reply::read_display_reply;
+use message_output::Built;
+use message_reply_reader::ReplyRead;
+use message_reply_reader::read_display_reply;
 use message_rules::TABLE_CODE;
 use message_rules::TO_DISPLAY;
 use message_rules::TextOffset;
@@ -53,7 +52,13 @@ fn write_part(h: Host, list: &[u8], at: usize) -> Host {
     let mut m = [0u8; OUTPUT_ROOM];
     let offset = TextOffset((at % 65536) as u16);
     let data = front(behind(list, at), MOST_WRITTEN);
-    let built = request::build_table_write(TO_DISPLAY, TABLE_CODE, offset, data, &mut m);
+    let built = message_request_builder::build_table_write(
+        TO_DISPLAY,
+        TABLE_CODE,
+        offset,
+        data,
+        &mut m,
+    );
     pipe::tell(h, pipe::MESSAGE, front(&m, length_of(built)))
 }
 
@@ -66,7 +71,7 @@ pub(crate) fn write_list(mut h: Host, list: &[u8]) -> Host {
 // Sends a Set of brightness.
 fn set(h: Host, value: u16) -> Host {
     let mut m = [0u8; OUTPUT_ROOM];
-    let built = request::build_set(TO_DISPLAY, BRIGHTNESS, value, &mut m);
+    let built = message_request_builder::build_set(TO_DISPLAY, BRIGHTNESS, value, &mut m);
     pipe::tell(h, pipe::MESSAGE, front(&m, length_of(built)))
 }
 
@@ -98,7 +103,7 @@ fn nothing(h: Host) -> Got {
 // Sends a Get of brightness, and returns what came.
 fn get_once(mut h: Host) -> Got {
     let mut m = [0u8; OUTPUT_ROOM];
-    let built = request::build_get(TO_DISPLAY, BRIGHTNESS, &mut m);
+    let built = message_request_builder::build_get(TO_DISPLAY, BRIGHTNESS, &mut m);
     h = pipe::exchange(h, pipe::MESSAGE, front(&m, length_of(built)));
     if h.fault != pipe::NONE {
         return nothing(h);

@@ -14,13 +14,13 @@ use Rattle.message_rules.specs.Limits.{outputRoom}
 use Rattle.message_rules.specs.Read.{Read, refused}
 use Rattle.message_rules.specs.declared.Position.{Position}
 use Rattle.message_rules.specs.declared.TextOffset.{TextOffset}
-use Rattle.message_reader.specs.Outcome.{ReplyMeans, replyIn, ReplyInside}
+use Rattle.message_reply_reader.specs.Outcome.{ReplyMeans, replyIn, ReplyInside}
 use Rattle.buffers.specs.Buffers.{over}
-use Rattle.message_builder.specs.Output.{Builds, BuildsMessage}
-use Rattle.message_builder.specs.declared.Built.{Built}
-use Rattle.message_builder.specs.declared.Built.the-variants as built
-use Rattle.message_reader.specs.declared.ReplyRead.{ReplyRead}
-use Rattle.message_reader.specs.declared.ReplyRead.the-variants as reply
+use Rattle.message_output.specs.Output.{Builds, BuildsMessage}
+use Rattle.message_output.specs.declared.Built.{Built}
+use Rattle.message_output.specs.declared.Built.the-variants as built
+use Rattle.message_reply_reader.specs.declared.ReplyRead.{ReplyRead}
+use Rattle.message_reply_reader.specs.declared.ReplyRead.the-variants as reply
 use Rattle.message_rules.specs.Message.{text, tableRead, requests, toDisplay}
 use Rattle.transfer_rules.specs.declared.Requested.{Requested}
 use Rattle.transfer_rules.specs.declared.State.{State}

@@ -5,11 +5,11 @@ use lib.ListN.{length}
 use Rattle.message_rules.specs.Answer.{done, notWanted}
 use Rattle.message_rules.specs.Read.{Read, ok, refused}
 use Rattle.buffers.specs.Buffers.{partOf}
-use Rattle.message_reader.specs.Outcome.{Meaning}
-use Rattle.message_builder.specs.declared.Built.{Built}
-use Rattle.message_builder.specs.declared.Built.the-variants as built
-use Rattle.message_reader.specs.declared.ReplyRead.{ReplyRead}
-use Rattle.message_reader.specs.declared.ReplyRead.the-variants as reply
+use Rattle.message_frame.specs.Meaning.{Meaning}
+use Rattle.message_output.specs.declared.Built.{Built}
+use Rattle.message_output.specs.declared.Built.the-variants as built
+use Rattle.message_reply_reader.specs.declared.ReplyRead.{ReplyRead}
+use Rattle.message_reply_reader.specs.declared.ReplyRead.the-variants as reply
 use Rattle.transfer_rules.specs.declared.Requested.{Requested}
 use Rattle.message_rules.specs.declared.TextKind.{TextKind}
 use Rattle.message_rules.specs.declared.TextKind.the-variants.{Capabilities, Table}

@@ -10,7 +10,7 @@ ghost use Rattle.transfer_rules.specs.Transfer.{firstState, Requests, Receives}
 ghost use Rattle.transfer_rules.specs.Fragment.{readReply, fragmentOf};
 ghost use Rattle.transfer.specs.Found.{requestedBy};
 use crate::wire::FragmentRead;
-use message_builder::Built;
+use message_output::Built;
 use message_rules::TextKind;
 use message_rules::TextOffset;
 use message_rules::answer;

@@ -1,13 +1,11 @@
 // The messages of a transfer, by the kind of its text.
 ghost use mathlib.Core.Path.{_≡_};
 ghost use mathlib.Core.Bool.{true};
-ghost use Rattle.message_builder.specs.Output.{Builds};
+ghost use Rattle.message_output.specs.Output.{Builds};
 ghost use Rattle.transfer_rules.specs.Fragment.{requestMessage, readReply, fragmentOf};
 ghost use Rattle.transfer.specs.Found.{FragmentMeans, ofKind};
-use message_builder::Built;
-use message_builder::request;
-use message_reader::ReplyRead;
-use message_reader::reply;
+use message_output::Built;
+use message_reply_reader::ReplyRead;
 use message_rules::Position;
 use message_rules::TextKind;
 use message_rules::TextOffset;
@@ -27,8 +25,12 @@ pub(crate) fn build(kind: TextKind, offset: TextOffset, output: &mut [u8]) -> Bu
     ensures { λ r. ⌜ Builds true (requestMessage kind (offset .0)) (now (output .entry)) (now (output .exit)) r ⌝ }
 {
     match kind {
-        TextKind::Capabilities => request::build_text(message_rules::TO_DISPLAY, offset, output),
-        TextKind::Table => request::build_table_read(
+        TextKind::Capabilities => message_request_builder::build_text(
+            message_rules::TO_DISPLAY,
+            offset,
+            output,
+        ),
+        TextKind::Table => message_request_builder::build_table_read(
             message_rules::TO_DISPLAY,
             message_rules::TABLE_CODE,
             offset,
@@ -60,6 +62,6 @@ fn of_kind(kind: TextKind, found: ReplyRead) -> FragmentRead
 pub(crate) fn read_fragment(kind: TextKind, s: &[u8]) -> FragmentRead
     ensures { λ r. ⌜ FragmentMeans (now (s .entry)) r (fragmentOf kind (readReply (now (s .entry)))) ⌝ }
 {
-    let found = reply::read_display_reply(s);
+    let found = message_reply_reader::read_display_reply(s);
     of_kind(kind, found)
 }

@@ -7,6 +7,7 @@ use native.Mathlib.Omega.{arith}
 use native.Mathlib.Nat.{add-zero}
 use lib.ListN.{length, take-append-drop}
 use borrow.Author.Tests.{le-leb, lt-leb, eq-eqb, ne-eqb}
+use Rattle.message_rules.specs.Limits.{outputRoom}
 use Rattle.message_rules.specs.Read.{Read, ok}
 use Rattle.message_rules.specs.Message.{Reply, value, timingReply, textFragment, tableFragment}
 use Rattle.message_rules.specs.declared.TextKind.{TextKind}
@@ -57,8 +58,8 @@ calls-follow =
     record {
       begins = λ k size budget h. rw (le-leb budget 65535 h);
       refusesBegin = λ k size budget h. rw (lt-leb budget 65535 h);
-      asks = λ t output o h. rw (o, le-leb 38 (length output) h);
-      refusesOutput = λ t output o h. rw (o, lt-leb 38 (length output) h);
+      asks = λ t output o h. rw (o, le-leb outputRoom (length output) h);
+      refusesOutput = λ t output o h. rw (o, lt-leb outputRoom (length output) h);
       refusesAsking = λ t output o. rw o;
       refusesOffer = λ t buffer came o. rw o;
       refusesBuffer = λ t buffer came o h. rw (o, ne-eqb (length buffer) (t .capacity) h);

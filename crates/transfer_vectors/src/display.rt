@@ -2,10 +2,9 @@
 use crate::line;
 use crate::line::Frame;
 use crate::line::ROOM;
-use message_builder::Built;
-use message_builder::reply;
-use message_reader::RequestRead;
-use message_reader::request::read_request;
+use message_output::Built;
+use message_request_reader::RequestRead;
+use message_request_reader::read_request;
 use message_rules::TO_DISPLAY;
 use message_rules::TO_HOST;
 use message_rules::TextKind;
@@ -81,8 +80,13 @@ fn length_of(built: Built) -> usize {
 fn built(kind: TextKind, at: TextOffset, data: &[u8]) -> Frame {
     let mut out = [0u8; ROOM];
     let built = match kind {
-        TextKind::Capabilities => reply::build_text_fragment(TO_HOST, at, data, &mut out),
-        TextKind::Table => reply::build_table_fragment(TO_HOST, at, data, &mut out),
+        TextKind::Capabilities => message_reply_builder::build_text_fragment(
+            TO_HOST,
+            at,
+            data,
+            &mut out,
+        ),
+        TextKind::Table => message_reply_builder::build_table_fragment(TO_HOST, at, data, &mut out),
     };
     Frame {
         bytes: out,

@@ -115,7 +115,7 @@ fn the_day_of_readme_is_the_days() {
 /// The other programs that README names have nothing to say but that all is well.
 #[test]
 fn the_vectors_hold() {
-    for name in ["vectors", "capabilities_vectors", "transfer_vectors", "display_vectors"] {
+    for name in ["message_vectors", "capabilities_vectors", "transfer_vectors", "display_vectors"] {
         let input = repository().join("crates").join(name).join("stdin");
         let stdin = fs::File::open(input).map_or_else(|_| Stdio::null(), Stdio::from);
         let output = Command::new(program(name)).stdin(stdin).output().unwrap();

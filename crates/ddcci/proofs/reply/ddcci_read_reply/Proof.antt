@@ -1,8 +1,8 @@
 -- `ddcci::reply::ddcci_read_reply` meets its contract: what begins with the fixed string is the null message.
 -- Assumes nothing.
 use mathlib.Core.Path.{sym, _∙_}
-use Rattle.message_reader.specs.declared.ReplyRead.the-variants.{Refused}
-use Rattle.message_reader.proofs.Starts.{null-answer}
+use Rattle.message_reply_reader.specs.declared.ReplyRead.the-variants.{Refused}
+use Rattle.message_reply_reader.proofs.Starts.{null-answer}
 use borrow.Author.Needs.{needs}
 use Rattle.ddcci.proofs.reply.ddcci_read_reply.Statement.{statement}
 use Rattle.ddcci.proofs.reply.ddcci_read_reply.Tie as tie

@@ -6,7 +6,7 @@ use Prim.Native.Nat.{ℕ}
 use Rattle.message_rules.specs.Row.{Row}
 use Rattle.message_rules.specs.Layout.{rowOf}
 use Rattle.message_rules.specs.declared.Direction.the-variants as way
-use Rattle.message_reader.proofs.Rows.{request-unknown}
+use Rattle.message_rules.proofs.Rows.{request-unknown}
 use Rattle.ddcci_display.specs.Asked.{rowAsked}
 use borrow.Author.Needs.{needs}
 use Rattle.ddcci_display.proofs.asked.by_command.Statement.{statement}

@@ -1,0 +1,4 @@
+pub mod Parts
+pub mod Fields
+pub mod Meanings
+pub mod Verdicts

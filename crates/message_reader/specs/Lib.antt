@@ -1,4 +1,0 @@
-pub mod Table
-pub mod Parts
-pub mod Outcome
-pub mod Start

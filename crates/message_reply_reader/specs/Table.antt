@@ -1,0 +1,25 @@
+-- The replies of the table as the code goes through them: a command number and the length of the body give a row: the form of the length byte, and a kind, 7 or 6.
+use Prim.Native.Nat.{ℕ}
+use mathlib.Core.Bool.{false, cond}
+use Rattle.message_rules.specs.Answer.{unknownCommand, wrongField}
+use Rattle.message_rules.specs.Row.{Row, Known, Unknown}
+use Rattle.message_rules.specs.Row as kind
+use Rattle.message_rules.specs.declared.ReplyKind.{ReplyKind}
+use Rattle.message_frame.specs.declared.Shape.{Shape}
+use Rattle.message_frame.specs.Shape.{shapeOf, lengthRight}
+use Rattle.message_reply_reader.specs.declared.table.ReplyRow.{ReplyRow}
+use Rattle.message_reply_reader.specs.declared.table.ReplyVerdict.the-variants as reply
+
+-- 7: "n .. wrong for the command"
+abbrev pub replyOf : ReplyKind → Shape → ℕ → ReplyRow
+replyOf c h n = record { plain = h .2; verdict = cond (lengthRight h n) (reply.Known c) (reply.Refused wrongField) }
+
+-- 6: "command not in the table"
+abbrev pub unknownReply : ReplyRow
+unknownReply = record { plain = false; verdict = reply.Refused unknownCommand }
+
+-- each end has its own half of the table
+abbrev pub replyRow : Row → ℕ → ReplyRow
+replyRow (Known (kind.Request c) l) n = unknownReply
+replyRow (Known (kind.Reply c) l) n = replyOf c (shapeOf l) n
+replyRow Unknown n = unknownReply

@@ -1,19 +1,12 @@
 // Reads a capabilities string: accepted or refused as document 01's grammar says, with its tree as nodes in four lent buffers.
 // A checker judges the whole string before the filler stores the first node, so that a refusal changes no buffer.
+use buffers::least;
 use capabilities_checker::check;
 use capabilities_filler::fill;
 use capabilities_rules::Reading;
 use capabilities_rules::limits::MOST_NODES;
 ghost use mathlib.Core.Path.{_≡_};
-ghost use Prim.Native.Nat.{min};
 ghost use Rattle.capabilities_rules.specs.Buffers.{buffers, roomOf, Answered};
-
-// Returns the lesser of two numbers.
-fn least(a: usize, b: usize) -> usize
-    ensures { λ r. ⌜ r ≡ min a b ⌝ }
-{
-    if a <= b { a } else { b }
-}
 
 // Returns the room for nodes, from the lengths of the four buffers.
 fn room_of(a: usize, b: usize, c: usize, d: usize) -> usize

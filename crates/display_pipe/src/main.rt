@@ -1,6 +1,7 @@
 // A display on standard input and output. The format of its records stands in docs/DISPLAY-PIPE.md.
 use buffers::front;
 use buffers::octet;
+use buffers::wide_word;
 use display_rules::Display;
 use display_rules::limits::TABLE_ROOM;
 use libc::STDERR_FILENO;
@@ -67,11 +68,6 @@ struct Head {
     kind: u8,
     len: usize,
     fault: u8,
-}
-
-// Returns a 16-bit number as a wider one.
-fn wide(x: u16) -> usize {
-    x as usize
 }
 
 // Returns the 16-bit number at an index, the low byte first.
@@ -211,7 +207,7 @@ fn read_head() -> Head {
     let got = io::read_full(STDIN_FILENO, h);
     Head {
         kind: octet(h, 0),
-        len: wide(word(h, 1)),
+        len: wide_word(word(h, 1)),
         fault: head_fault(got),
     }
 }
@@ -326,7 +322,7 @@ fn main() {
             return;
         }
         if h.kind == MESSAGE {
-            let whole = front(&text, wide(d.capabilities.len));
+            let whole = front(&text, wide_word(d.capabilities.len));
             let stepped = display::step(d, whole, &mut table, front(&body, h.len), &mut out);
             let after = stepped.display;
             d = after;

@@ -59,6 +59,13 @@ pub fn front(s: &[u8], n: usize) -> &[u8]
     if n < s.len() { &s[0..n] } else { s }
 }
 
+// Returns the first n bytes that are to be changed, or all where there are fewer.
+pub fn front_mut(s: &mut [u8], n: usize) -> &mut [u8]
+    ensures { λ r. ⌜ now r ≡ take n (now (s .entry)) ⌝ }
+{
+    if n < s.len() { &mut s[0..n] } else { s }
+}
+
 // Returns what stands behind the first n bytes.
 pub fn behind(s: &[u8], n: usize) -> &[u8]
     ensures { λ r. ⌜ now r ≡ drop n (now (s .entry)) ⌝ }

@@ -1,4 +1,5 @@
-// Reads a capabilities string: accepted or refused as document 01's grammar says, with its tree as nodes in four lent buffers.
+// Reads a capabilities string: accepted or refused as document 01's grammar says.
+// Its tree is given as nodes in four lent buffers.
 // A checker judges the whole string before the filler stores the first node, so that a refusal changes no buffer.
 use buffers::least;
 use capabilities_checker::check;

@@ -1,5 +1,6 @@
 // A display on standard input and output. The format of its records stands in docs/DISPLAY-PIPE.md.
 use buffers::front;
+use buffers::front_mut;
 use buffers::octet;
 use buffers::wide_word;
 use display_rules::Display;
@@ -73,11 +74,6 @@ struct Head {
 // Returns the 16-bit number at an index, the low byte first.
 fn word(s: &[u8], at: usize) -> u16 {
     word_at(s, Position(at))
-}
-
-// Returns the first n bytes that are to be changed, or all where there are fewer.
-fn front_mut(s: &mut [u8], n: usize) -> &mut [u8] {
-    if n < s.len() { &mut s[0..n] } else { s }
 }
 
 // Writes the record that goes back: the answer, the reply's length and the reply.

@@ -1,7 +1,7 @@
 // Records: length, kind, body, and the little-endian numbers in them.
 //
-// No function asks anything of a position: bytes that are not there count as 0, no record stands where it would be cut,
-// and bytes that do not fit into an output are not put.
+// No function asks anything of a position: bytes that are not there count as 0, no record stands where it would be
+// cut, and bytes that do not fit into an output are not put.
 use buffers::fits;
 use buffers::octet;
 use buffers::put_octet;
@@ -98,7 +98,8 @@ pub fn put_byte(out: &mut [u8], at: Position, b: u8)
     put_octet(out, at.0, b);
 }
 
-// Puts the two bytes of a number into an output at a position, the low one first; nothing, where they do not both fit.
+// Puts the two bytes of a number into an output at a position, the low one first.
+// Puts nothing, where they do not both fit.
 pub fn put_word(out: &mut [u8], at: Position, n: u16)
     ensures { λ _. ⌜ now (out .exit) ≡ putWhole (now (out .entry)) (at .0) (littleEndian 2 n) ⌝ }
 {
@@ -109,7 +110,7 @@ pub fn put_word(out: &mut [u8], at: Position, n: u16)
     }
 }
 
-// Puts the head of a record into an output at a position: its length, which counts the kind and the body, and its kind.
+// Puts the head of a record into an output at a position: its length, which counts kind and body, and its kind.
 // Puts nothing, where the four bytes do not all fit.
 pub fn put_head(out: &mut [u8], at: Position, len: u16, kind: u16)
     ensures { λ _. ⌜ now (out .exit) ≡ putWhole (now (out .entry)) (at .0) (headOf len kind) ⌝ }

@@ -1,4 +1,5 @@
--- `capabilities_filler::fill` meets its contract: an accepted string's outer group can be filled, and then all its nodes are stored.
+-- `capabilities_filler::fill` meets its contract: an accepted string's outer group can be filled, and then all its nodes
+-- are stored.
 use mathlib.Core.List.{List}
 use Prim.Native.Nat.{ℕ}
 use borrow.Author.Needs.{needs}

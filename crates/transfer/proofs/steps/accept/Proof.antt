@@ -1,4 +1,5 @@
--- `transfer::steps::accept` meets its contract: past the room nothing is written, else the fragment is put at the offset reached.
+-- `transfer::steps::accept` meets its contract: past the room nothing is written.
+-- Else the fragment is put at the offset reached.
 -- Assumes nothing.
 use native.Mathlib.Omega.{arith}
 use denote.Ref.{now}

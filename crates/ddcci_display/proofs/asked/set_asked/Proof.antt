@@ -32,7 +32,7 @@ asked-of-requires : tie.Need-asked-of-requires
 asked-of-requires c κs = search needs
 
 returns : tie.Need-returns
-returns c = let a = c .before .before .before .before .before .before .before .before .args in rw (c .asked-of .ensures, le-leb 6 (length (a .message .now)) (c .before .before .before .before .before .before .if1 .taken), c .before .before .wide16-2 .ensures .0, c .before .before .before .before .wide16 .ensures .0)
+returns c = let a = c .before .before .before .before .before .before .before .before .args in rw (c .asked-of .ensures, le-leb 6 (length (a .message .now)) (c .before .before .before .before .before .before .if1 .taken), c .before .before .wide162 .ensures .0, c .before .before .before .before .wide16 .ensures .0)
 
 asked-of-requires-2 : tie.Need-asked-of-requires-2
 asked-of-requires-2 c κs = search needs

@@ -1,11 +1,13 @@
 -- Bytes put into a buffer: nothing, from its start on, and one run behind another.
 use mathlib.Core.Path.{_≡_, refl, sym, ap, ap₂, _∙_}
-use mathlib.Core.List.{List, [], _++_, append-assoc}
-use Prim.Native.Nat.{ℕ, _+_, _≤_}
+use mathlib.Core.List.{List, [], _++_, append-assoc, append-nil}
+use Prim.Native.Nat.{ℕ, _+_, _-_, _≤_, _<_}
 use native.Mathlib.Omega.{arith}
-use lib.ListN.{length, take, drop, length-append, length-drop, take-append-drop}
-use lib.Seq.{take-at, drop-at, drop-append-add, drop-drop, length-take-le}
-use Rattle.buffers.specs.Buffers.{over, put}
+use lib.ListN.{length, take, drop, length-append, length-drop, take-append-drop, drop-of-length-le}
+use lib.Seq.{sets, sets-eq, take-at, take-all, take-length, drop-at, drop-append-add, drop-drop, length-take-le}
+use borrow.Author.Tests.{le-leb, lt-leb}
+use borrow.Rule.Slice.PartMut.{midOf, postOf, putMid, post-is}
+use Rattle.buffers.specs.Buffers.{over, put, putWhole}
 
 -- nothing put
 pub put-none : (out : List ℕ) (at : ℕ) → put out at [] ≡ out
@@ -13,6 +15,26 @@ put-none out at = let e : at + 0 ≡ at = omega arith in ap (λ (n : ℕ). take 
 
 pub put-length : (out : List ℕ) (at : ℕ) (s : List ℕ) → at + length s ≤ length out → length (put out at s) ≡ length out
 put-length out at s h = simp (length-append, length-drop) (omega (arith, length-take-le at out (omega arith)))
+
+-- bytes that fit are put, and others leave the output as it was
+pub put-fits : (out : List ℕ) (at : ℕ) (s : List ℕ) → at + length s ≤ length out → putWhole out at s ≡ put out at s
+put-fits out at s h = rw (le-leb (at + length s) (length out) h)
+
+pub put-not : (out : List ℕ) (at : ℕ) (s : List ℕ) → length out < at + length s → putWhole out at s ≡ out
+put-not out at s h = rw (lt-leb (at + length s) (length out) h)
+
+-- bytes stored one by one
+pub put-sets : (out : List ℕ) (at : ℕ) (s : List ℕ) → at + length s ≤ length out → sets out at s ≡ put out at s
+put-sets out at s h = sets-eq s out at h ∙ append-assoc (take at out) s (drop (at + length s) out)
+
+-- a copy into the part of the output from an index on
+pub put-copied : (at end : ℕ) (out s ys : List ℕ) → at + length s ≤ length out → end ≡ length out → ys ≡ take (length s) s ++ drop (length s) (midOf at (end - at) out)
+    → putMid at (end - at) out ys ≡ put out at s
+put-copied at end out s ys h l f =
+    let whole : midOf at (end - at) out ≡ drop at out = take-all (end - at) (drop at out) (omega (arith, length-drop at out)) in
+    let none : postOf at (end - at) out ≡ [] = post-is at end out (omega arith) ∙ drop-of-length-le out {i = end} (omega arith) in
+    let part : ys ≡ s ++ drop (at + length s) out = f ∙ ap₂ (λ (x y : List ℕ). x ++ drop (length s) y) (take-length s) whole ∙ ap (λ (x : List ℕ). s ++ x) (drop-drop (length s) at out) in
+    ap₂ (λ (x y : List ℕ). take at out ++ (x ++ y)) part none ∙ ap (λ (x : List ℕ). take at out ++ x) (append-nil (s ++ drop (at + length s) out))
 
 -- from the start of the output
 pub put-over : (s out : List ℕ) → put out 0 s ≡ over s out

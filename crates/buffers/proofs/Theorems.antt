@@ -1,13 +1,13 @@
 -- The theorems of specs/Statements.antt.
-use mathlib.Core.Path.{_≡_, refl, sym, ap, _∙_}
+use mathlib.Core.Path.{_≡_, refl, sym, ap, _∙_, subst}
 use mathlib.Core.List.{List, _++_, append-assoc}
 use Prim.Native.Nat.{ℕ, _+_, _-_, _≤_, _<_}
 use native.Mathlib.Omega.{arith}
 use lib.ListN.{length, getD, take, drop, length-append, length-drop, List·getD-append}
 use lib.Seq.{getD-append-add, getD-take, getD-drop, take-at, drop-at, length-take-le}
-use Rattle.buffers.specs.Buffers.{over, put, partOf}
-use Rattle.buffers.specs.Statements.{PutsBytes, PutsThere, OverPuts, PartBytes, TakesPart, PutComesBack}
-use Rattle.buffers.proofs.Puts.{put-length, put-over}
+use Rattle.buffers.specs.Buffers.{over, put, putWhole, partOf}
+use Rattle.buffers.specs.Statements.{PutsBytes, PutsThere, PutsOrLeaves, OverPuts, PartBytes, TakesPart, PutComesBack}
+use Rattle.buffers.proofs.Puts.{put-length, put-over, put-fits, put-not}
 
 -- ---- each byte
 
@@ -45,6 +45,13 @@ puts-bytes out at s h =
       before = put-before out at s (omega arith);
       there = put-there out at s (omega arith);
       behind = put-behind out at s (omega arith);
+    }
+
+pub puts-or-leaves : PutsOrLeaves putWhole
+puts-or-leaves =
+    record {
+      puts = λ out at s h. subst (PutsThere out at s) (sym (put-fits out at s h)) (puts-bytes out at s h);
+      leaves = put-not;
     }
 
 pub over-puts : OverPuts over put

@@ -21,6 +21,11 @@ pub record PutsThere (out : List ℕ) (at : ℕ) (s after : List ℕ) : Type 0 w
 abbrev pub PutsBytes : PutRule → Type 0
 PutsBytes put = (out : List ℕ) (at : ℕ) (s : List ℕ) → at + length s ≤ length out → PutsThere out at s (put out at s)
 
+-- the same of bytes that fit, and bytes that do not all fit change nothing
+pub record PutsOrLeaves (put : PutRule) : Type 0 where
+  pub puts : PutsBytes put
+  pub leaves : (out : List ℕ) (at : ℕ) (s : List ℕ) → length out < at + length s → put out at s ≡ out
+
 -- bytes at the start of an output are bytes at index 0
 abbrev pub OverPuts : (List ℕ → List ℕ → List ℕ) → PutRule → Type 0
 OverPuts over put = (s out : List ℕ) → put out 0 s ≡ over s out

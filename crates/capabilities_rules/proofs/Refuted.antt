@@ -10,13 +10,14 @@ use lib.ListN.{length, getD, replicate, length-append, length-replicate}
 use borrow.Author.Tests.{le-leb}
 use Rattle.capabilities_rules.specs.Grammar.{none, word, ListAt, ends, spaced, worded, last, text, Fits, Node}
 use Rattle.capabilities_rules.specs.Machine.{before, kindOf}
-use Rattle.capabilities_rules.specs.Outcome.{told, refused, judge, outcome}
+use Rattle.capabilities_rules.specs.Outcome.{told, refused, judge, outcome, isAccepted}
 use Rattle.capabilities_rules.specs.Nodes.{letters, opens, nodes, nodesOf}
 use Rattle.capabilities_rules.specs.Buffers.{Buffers, buffers, bufferRoom, written}
 use Rattle.capabilities_rules.specs.Prefixes.{Why, too-long, cut-short, wrong-byte, ninth-open, no-node}
 use Rattle.capabilities_rules.specs.Demand2.{Promise, Demand2}
 use Rattle.capabilities_rules.specs.declared.Reading.{Reading}
 use Rattle.capabilities_rules.specs.declared.Reading.the-variants.{Accepted, Refused}
+use Rattle.capabilities_rules.proofs.Theorems.{theorems}
 use Rattle.capabilities_rules.proofs.Walk.{walk-text}
 
 -- no room at all
@@ -95,6 +96,73 @@ pub no-rotator : Demand2 rotates → ⊥
 unfolding outcome judge
 no-rotator h = no-word (h .rightly [] bare bare (refused 14 0) (refl, refl) .refuses 14 0 refl .0) refl
 
+-- ---- a reader that gives 13 for the ninth "("
+
+abbrev levelled : Reading → Reading
+levelled (Accepted n) = Accepted n
+levelled (Refused k p) = Refused (cond (eqb k 15) 13 k) p
+
+abbrev levels15 : Promise
+levels15 s t t′ r = (r ≡ levelled (outcome (bufferRoom t) s)) × (t′ ≡ written (told r .number) (nodesOf s) t)
+
+-- n words, each with a group that nothing ends
+abbrev descent : ℕ → List ℕ
+descent zero = []
+descent (suc n) = 0x61 ∷ 0x28 ∷ descent n
+
+-- room for eight nodes
+abbrev eight : Buffers
+eight = buffers (replicate 8 0) (replicate 8 0) (replicate 8 0) (replicate 8 0)
+
+-- the outer group and eight in it: the last "(" is the ninth
+pub no-levelling : Demand2 levels15 → ⊥
+unfolding outcome judge kindOf
+no-levelling h =
+    let s : List ℕ = 0x28 ∷ descent 8 in
+    let a = h .rightly s eight eight (refused 13 16) (refl, refl) .refused-there 15 16 (theorems .refusals 8 15 16 s refl) in
+    let z : _≡_ {A = ℕ} 13 15 = ap (λ (r : Reading). told r .number) a in
+    omega arith
+
+-- ---- a reader that overlooks a byte behind the outer group
+
+-- the string without its last byte
+abbrev cut : List ℕ → List ℕ
+cut [] = []
+cut (b ∷ []) = []
+cut (b ∷ c ∷ s) = b ∷ cut (c ∷ s)
+
+abbrev overlooks : Promise
+overlooks s t t′ r =
+    (r ≡ cond (isAccepted (outcome (bufferRoom t) (cut s))) (outcome (bufferRoom t) (cut s)) (outcome (bufferRoom t) s)) × (t′ ≡ written (told r .number) (nodesOf (cut s)) t)
+
+-- "() "
+pub no-overlooking : Demand2 overlooks → ⊥
+unfolding outcome judge kindOf nodes nodesOf
+no-overlooking h =
+    let s : List ℕ = 0x28 ∷ 0x29 ∷ 0x20 ∷ [] in
+    let a = h .rightly s bare bare (Accepted 0) (refl, refl) .refused-there 13 2 (theorems .refusals 0 13 2 s refl) in
+    let z : _≡_ {A = ℕ} 0 13 = ap (λ (r : Reading). told r .number) a in
+    omega arith
+
+-- ---- a reader that takes a space for a letter
+
+abbrev joined : ℕ → ℕ
+joined b = cond (eqb b 0x20) 0x61 b
+
+abbrev joins : Promise
+joins s t t′ r = (r ≡ outcome (bufferRoom t) (map joined s)) × (t′ ≡ written (told r .number) (nodesOf (map joined s)) t)
+
+-- "( )" fits
+gap-fits : Fits 0 (0x28 ∷ 0x20 ∷ 0x29 ∷ []) none
+gap-fits = record { grammar = text (spaced ends); deep = omega arith; roomy = omega arith; short = omega arith }
+
+pub no-joining : Demand2 joins → ⊥
+unfolding outcome judge kindOf
+no-joining h =
+    let a = h .rightly (0x28 ∷ 0x20 ∷ 0x29 ∷ []) bare bare (refused 14 1) (refl, refl) .accepts none gap-fits .counts in
+    let z : _≡_ {A = ℕ} 14 0 = ap (λ (r : Reading). told r .number) a in
+    omega arith
+
 -- ---- a reader that gives 65,534 as the parent at the top
 
 abbrev lowered : Node → Node
@@ -116,6 +184,21 @@ unfolding outcome judge kindOf letters opens nodes nodesOf
 no-lowering h =
     let a = h .rightly (0x28 ∷ 0x61 ∷ 0x29 ∷ []) single (buffers (1 ∷ []) (1 ∷ []) (65534 ∷ []) (0 ∷ [])) (Accepted 1) (refl, refl) .accepts (word 1 1 none) word-fits .holds .parents in
     let z : _≡_ {A = ℕ} 65534 65535 = ap (λ (l : List ℕ). getD l 0 0) a in
+    omega arith
+
+-- ---- a reader that gives the position past a word as its start
+
+abbrev ended : Node → Node
+ended x = record { start = x .start + x .size; size = x .size; parent = x .parent; group = x .group }
+
+abbrev startsLate : Promise
+startsLate s t t′ r = (r ≡ outcome (bufferRoom t) s) × (t′ ≡ written (told r .number) (map ended (nodesOf s)) t)
+
+pub no-late-start : Demand2 startsLate → ⊥
+unfolding outcome judge kindOf letters opens nodes nodesOf
+no-late-start h =
+    let a = h .rightly (0x28 ∷ 0x61 ∷ 0x29 ∷ []) single (buffers (2 ∷ []) (1 ∷ []) (65535 ∷ []) (0 ∷ [])) (Accepted 1) (refl, refl) .accepts (word 1 1 none) word-fits .holds .starts in
+    let z : _≡_ {A = ℕ} 2 1 = ap (λ (l : List ℕ). getD l 0 0) a in
     omega arith
 
 -- ---- a reader that stores nodes as it goes, and leaves them where it refuses

@@ -1,6 +1,8 @@
 // Runs capabilities strings against worked-out answers: document 01's examples, and strings of real monitors.
 // Writes one line a group: how many of its strings were answered right.
 // Every expected number is the papers' own, as a numeral: none is named by a constant that is under test.
+use buffers::front_mut;
+use buffers::wide32;
 use capabilities_rules::Reading;
 use libc::STDOUT_FILENO;
 
@@ -28,11 +30,6 @@ fn wide(x: u16) -> u32 {
     x as u32
 }
 
-// Returns a byte as 32 bits.
-fn wide_byte(x: u8) -> u32 {
-    x as u32
-}
-
 // Returns three times the digest plus the value, so that each value counts, and where it stands.
 fn mix(digest: u32, value: u32) -> u32 {
     let twice = std::num::wrapping_add_u32(digest, digest);
@@ -43,7 +40,7 @@ fn mix(digest: u32, value: u32) -> u32 {
 fn mix_node(digest: u32, start: u16, length: u16, parent: u16, group: u8) -> u32 {
     mix(
         mix(mix(mix(digest, wide(start)), wide(length)), wide(parent)),
-        wide_byte(group),
+        wide32(group),
     )
 }
 
@@ -62,15 +59,6 @@ fn digest(
         }
     }
     all
-}
-
-// Returns the first n entries, or all where there are fewer.
-fn front(buffer: &mut [u8], n: usize) -> &mut [u8] {
-    if n < buffer.len() {
-        &mut buffer[0..n]
-    } else {
-        buffer
-    }
 }
 
 // Returns whether so many nodes with this digest are wanted.
@@ -116,7 +104,7 @@ fn answers(text: &[u8], room: usize, wanted: Wanted) -> bool {
         &mut starts,
         &mut lengths,
         &mut parents,
-        front(&mut groups, room),
+        front_mut(&mut groups, room),
     );
     let all = digest(starts, lengths, parents, groups, count_of(reading));
     judged(reading, all, wanted)

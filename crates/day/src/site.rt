@@ -1,5 +1,6 @@
 // A display at the end of its line.
 use buffers::front;
+use buffers::wide_word;
 use day_host::actions;
 use day_host::actions::Action;
 use day_host::texts;
@@ -26,14 +27,9 @@ pub(crate) struct Site {
     pub(crate) good: bool,
 }
 
-// Returns a length as a number of bytes of a slice.
-fn wide(x: u16) -> usize {
-    x as usize
-}
-
 // Returns how many bytes of a table the display holds.
 pub(crate) fn stored(s: Site) -> usize {
-    wide(s.display.table.len)
+    wide_word(s.display.table.len)
 }
 
 // Returns the site with one more judgement: where it is not good, not everything held.

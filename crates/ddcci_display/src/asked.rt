@@ -8,6 +8,7 @@ ghost use Rattle.message_rules.specs.Body.{word};
 ghost use Rattle.message_rules.specs.Layout.{rowOf};
 ghost use Rattle.message_rules.specs.declared.Direction.the-variants.{Request};
 ghost use Rattle.ddcci_display.specs.Asked.{asked, nothingAsked, rowAsked, askedOf};
+use buffers::wide16;
 use message_rules::answer;
 
 // What a message asked for: its command number, the code, and the value of a Set. What it does not have is 0.
@@ -27,12 +28,6 @@ fn asked_of(command: u8, code: u8, value: u16) -> DisplayAsked
         code: code,
         value: value,
     }
-}
-
-fn wide(x: u8) -> u16
-    ensures { λ r. ⌜ (r ≡ x) × (r < 256) ⌝ }
-{
-    x as u16
 }
 
 // Returns a command alone; all 0 where the message is shorter than its fields.
@@ -62,7 +57,7 @@ fn set_asked(message: &[u8]) -> DisplayAsked
     ensures { λ r. ⌜ r ≡ cond (leb 6 (length (now (message .entry)))) (asked 0x03 (getD (now (message .entry)) 3 0) (word (now (message .entry)) 4)) nothingAsked ⌝ }
 {
     if 6 <= message.len() {
-        let value = wide(message[4]) * 256 + wide(message[5]);
+        let value = wide16(message[4]) * 256 + wide16(message[5]);
         return asked_of(0x03, message[3], value);
     }
     asked_of(0, 0, 0)

@@ -1,6 +1,8 @@
 // A display on standard input and output. The format of its records stands in docs/DISPLAY-PIPE.md.
 use buffers::front;
+use buffers::front_mut;
 use buffers::octet;
+use buffers::wide_word;
 use ddcci_display::ddcci_display_step;
 use display_rules::Display;
 use display_rules::limits::TABLE_ROOM;
@@ -70,19 +72,9 @@ struct Head {
     fault: u8,
 }
 
-// Returns a 16-bit number as a wider one.
-fn wide(x: u16) -> usize {
-    x as usize
-}
-
 // Returns the 16-bit number at an index, the low byte first.
 fn word(s: &[u8], at: usize) -> u16 {
     word_at(s, Position(at))
-}
-
-// Returns the first n bytes that are to be changed, or all where there are fewer.
-fn front_mut(s: &mut [u8], n: usize) -> &mut [u8] {
-    if n < s.len() { &mut s[0..n] } else { s }
 }
 
 // Writes the record that goes back: the answer, the reply's length and the reply.
@@ -212,7 +204,7 @@ fn read_head() -> Head {
     let got = io::read_full(STDIN_FILENO, h);
     Head {
         kind: octet(h, 0),
-        len: wide(word(h, 1)),
+        len: wide_word(word(h, 1)),
         fault: head_fault(got),
     }
 }
@@ -327,7 +319,7 @@ fn main() {
             return;
         }
         if h.kind == MESSAGE {
-            let whole = front(&text, wide(d.capabilities.len));
+            let whole = front(&text, wide_word(d.capabilities.len));
             let stepped = ddcci_display_step(d, whole, &mut table, front(&body, h.len), &mut out);
             let after = stepped.display;
             d = after;

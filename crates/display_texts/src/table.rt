@@ -1,10 +1,11 @@
 // Writing the table.
 ghost use mathlib.Core.Path.{_≡_};
 ghost use Prim.Native.Nat.{_+_, _≤_, _<_};
-ghost use lib.ListN.{length};
 ghost use Rattle.display_rules.specs.Limits.{tableRoom};
-ghost use Rattle.display_rules.specs.Table.{writeAnswer, lengthAfter, written};
+ghost use Rattle.display_rules.specs.Table.{writeAnswer, lengthAfter};
 ghost use Rattle.display_texts.specs.Writes.{Writes};
+use buffers::put;
+use buffers::wide_word;
 use display_rules::limits::TABLE_ROOM;
 use message_rules::TABLE_CODE;
 use message_rules::TextOffset;
@@ -46,15 +47,6 @@ fn length_after(old: u16, at: TextOffset, n: u16) -> u16
     if old < at.0 + n { at.0 + n } else { old }
 }
 
-// Puts the bytes into the table's buffer at the offset.
-fn put(data: &[u8], at: TextOffset, table: &mut [u8])
-    requires { ⌜ at .0 + length (now «data») ≤ length (now table) ⌝ }
-    ensures { λ _. ⌜ now (table .exit) ≡ written (now (table .entry)) (at .0) (now («data» .entry)) ⌝ }
-{
-    let from = at.0 as usize;
-    bytes::copy(data, &mut table[from..]);
-}
-
 // Writes the bytes at an offset of a table of `old` bytes, into the table's buffer.
 // Returns the answer, and the table's length afterwards.
 // The answer is 1 for a buffer that is too small; no step passes one on.
@@ -69,7 +61,7 @@ pub fn write(old: u16, table: &mut [u8], code: u8, at: TextOffset, data: &[u8]) 
     }
     let answer = write_answer(code, old, at, data.len());
     if answer == answer::DONE {
-        put(data, at, table);
+        put(table, wide_word(at.0), data);
         let length = length_after(old, at, data.len() as u16);
         return Writing {
             answer: answer,

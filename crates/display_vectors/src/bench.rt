@@ -1,6 +1,7 @@
 // A display on a bench: it, the memory of its table, and what its last step gave.
 use buffers::behind;
 use buffers::front;
+use buffers::front_mut;
 use buffers::octet;
 use buffers::part;
 use ddcci_display::ddcci_display_step;
@@ -59,11 +60,6 @@ pub(crate) struct Bench {
     pub(crate) rows: u32,
     // Whether all of them were as expected.
     pub(crate) good: bool,
-}
-
-// Returns the first n bytes of s to be written, or all of it where it is shorter.
-pub(crate) fn front_mut(s: &mut [u8], n: usize) -> &mut [u8] {
-    if n < s.len() { &mut s[0..n] } else { s }
 }
 
 // Returns the capabilities string of every display here: byte i of it is the low byte of i.

@@ -7,10 +7,12 @@ use bench::Bench;
 use bench::FILLING;
 use bench::OUT_ROOM;
 use bench::TABLE_BUFFER;
-use bench::front_mut;
 use buffers::behind;
 use buffers::front;
+use buffers::front_mut;
 use buffers::octet;
+use buffers::wide;
+use buffers::wide_word;
 use display_rules::Changed;
 use libc::STDIN_FILENO;
 use libc::STDOUT_FILENO;
@@ -39,16 +41,6 @@ fn word(s: &[u8], at: usize) -> u16 {
 // Returns the 16-bit number of a high and a low byte.
 fn joined(high: u8, low: u8) -> u16 {
     high as u16 * 256 + low as u16
-}
-
-// Returns a 16-bit number as a length.
-fn wide(n: u16) -> usize {
-    n as usize
-}
-
-// Returns a byte as a length.
-fn byte_wide(n: u8) -> usize {
-    n as usize
 }
 
 // Returns the answer that is due, which is written in decimal.
@@ -96,12 +88,20 @@ fn started(given: &[u8]) -> Changed {
         vertical: word(given, 3),
     };
     let bytes = bench::text();
-    display_start::start(timing, front(&bytes, wide(word(given, 7))), word(given, 5))
+    display_start::start(
+        timing,
+        front(&bytes, wide_word(word(given, 7))),
+        word(given, 5),
+    )
 }
 
 // Returns the length of the capabilities string of a display that a row starts; one that was refused has none.
 fn text_length(answer: u8, given: &[u8]) -> usize {
-    if answer == 0 { wide(word(given, 7)) } else { 0 }
+    if answer == 0 {
+        wide_word(word(given, 7))
+    } else {
+        0
+    }
 }
 
 // Returns the bench with the display that a row starts.
@@ -137,9 +137,9 @@ fn declare(mut b: Bench, given: &[u8], due: &[u8]) -> Bench {
 
 // Returns the bench after a message with buffers of the lengths that a row gives.
 fn buffers(b: Bench, given: &[u8], due: &[u8]) -> Bench {
-    let text = wide(word(given, 0));
-    let table = wide(word(given, 2));
-    let room = byte_wide(octet(given, 4));
+    let text = wide_word(word(given, 0));
+    let table = wide_word(word(given, 2));
+    let room = wide(octet(given, 4));
     replied(
         bench::step(b, text, table, room, behind(given, LENGTHS)),
         due,
@@ -156,7 +156,7 @@ fn writes(settings: Settings, room: usize, due: &[u8]) -> bool {
 // Returns the bench after its profile was written into an output of the length that a row gives.
 fn write_profile(b: Bench, given: &[u8], due: &[u8]) -> Bench {
     let display = b.display;
-    let good = writes(display.settings, byte_wide(octet(given, 0)), due);
+    let good = writes(display.settings, wide(octet(given, 0)), due);
     count(b, good)
 }
 
@@ -168,7 +168,9 @@ fn load_profile(mut b: Bench, given: &[u8], due: &[u8]) -> Bench {
     let after = r.settings;
     display.settings = after;
     b.display = display;
-    let good = r.answer == answer_due(due) && r.position.0 == wide(word(due, 1)) && due.len() == 3;
+    let good = r.answer == answer_due(due)
+        && r.position.0 == wide_word(word(due, 1))
+        && due.len() == 3;
     count(b, good)
 }
 

@@ -1,4 +1,5 @@
 // The records of the pipe, from the host's side.
+use buffers::front_mut;
 use libc::STDIN_FILENO;
 use libc::STDOUT_FILENO;
 use message_rules::answer::DONE;
@@ -74,11 +75,6 @@ pub(crate) fn faulty(mut h: Host, fault: u8) -> Host {
 // Returns a 16-bit number of a record, the low byte first.
 fn word(low: u8, high: u8) -> usize {
     low as usize + high as usize * 256
-}
-
-// Returns the first n bytes, or all where there are fewer.
-fn front_mut(s: &mut [u8], n: usize) -> &mut [u8] {
-    if n < s.len() { &mut s[0..n] } else { s }
 }
 
 // Writes a record, and returns whether all of it was taken.

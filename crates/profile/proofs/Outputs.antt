@@ -1,33 +1,34 @@
 -- Runs of bytes put into an output one behind the other.
 use mathlib.Core.Path.{_≡_, sym, ap, _∙_}
-use mathlib.Core.List.{List, [], _∷_, _++_, append-assoc}
-use Prim.Native.Nat.{ℕ, suc, _+_, _*_, _≤_, _<_}
+use mathlib.Core.List.{List, [], _∷_, _++_}
+use Prim.Native.Nat.{ℕ, _+_, _*_, _≤_, _<_}
 use native.Mathlib.Omega.{arith}
-use lib.ListN.{length, getD, take, drop, set}
-use lib.Seq.{sets-eq}
+use lib.ListN.{length, getD}
 use borrow.Author.Tests.{le-leb, lt-leb}
-use Rattle.buffers.specs.Buffers.{put}
-use Rattle.buffers.proofs.Puts.{put-none, put-length, put-over, put-next}
+use Rattle.buffers.specs.Buffers.{put, putWhole}
+use Rattle.buffers.proofs.Puts.{put-none, put-length, put-over, put-next, put-fits}
+use Rattle.records.specs.Numbers.{littleEndian}
+use Rattle.records.specs.Records.{headOf}
 use Rattle.message_rules.specs.Answer.{done, wrongSize}
 use Rattle.codes.specs.Codes.{allCodes, member, countOf}
 use Rattle.settings_rules.specs.declared.Settings.{Settings}
-use Rattle.profile_rules.specs.Records.{valueRecord, recordSize}
+use Rattle.profile_rules.specs.Records.{valueRecord, valueKind, recordLength, recordSize}
 use Rattle.profile_rules.specs.Profile.{codesFrom, profileCodes, recordsOf, profileOf, writeProfile}
 use Rattle.profile_rules.proofs.Records.{records-length}
 use Rattle.profile_rules.proofs.Rising.{Found, set-count}
 
--- seven stores in a row are one run
-pub seven-stores : (out : List ℕ) (at a b c d e f g : ℕ) → at + 7 ≤ length out
-    → set (set (set (set (set (set (set out at a) (at + 1) b) (at + 2) c) (at + 3) d) (at + 4) e) (at + 5) f) (at + 6) g
-    ≡ put out at (a ∷ b ∷ c ∷ d ∷ e ∷ f ∷ g ∷ [])
-seven-stores out at a b c d e f g h =
-    let e1 : at + 1 ≡ suc at = omega arith in
-    let e2 : at + 2 ≡ suc (suc at) = omega arith in
-    let e3 : at + 3 ≡ suc (suc (suc at)) = omega arith in
-    let e4 : at + 4 ≡ suc (suc (suc (suc at))) = omega arith in
-    let e5 : at + 5 ≡ suc (suc (suc (suc (suc at)))) = omega arith in
-    let e6 : at + 6 ≡ suc (suc (suc (suc (suc (suc at))))) = omega arith in
-    rw (e1, e2, e3, e4, e5, e6) (sets-eq (a ∷ b ∷ c ∷ d ∷ e ∷ f ∷ g ∷ []) out at h ∙ append-assoc (take at out) (a ∷ b ∷ c ∷ d ∷ e ∷ f ∷ g ∷ []) (drop (at + 7) out))
+-- a record, put part by part
+pub record-parts : (out : List ℕ) (at code value : ℕ) (o p q : List ℕ) → at + recordSize ≤ length out → o ≡ putWhole out at (headOf recordLength valueKind)
+    → p ≡ putWhole o (at + 4) (code ∷ []) → q ≡ putWhole p (at + 5) (littleEndian 2 value) → q ≡ put out at (valueRecord code value)
+record-parts out at code value o p q h e f g =
+    let head = headOf recordLength valueKind in
+    let one : o ≡ put out at head = e ∙ put-fits out at head (omega arith) in
+    let l : length o ≡ length out = ap length one ∙ put-length out at head (omega arith) in
+    let two : p ≡ put o (at + 4) (code ∷ []) = f ∙ put-fits o (at + 4) (code ∷ []) (omega arith) in
+    let m : length p ≡ length out = ap length two ∙ put-length o (at + 4) (code ∷ []) (omega arith) ∙ l in
+    let three : q ≡ put p (at + 5) (littleEndian 2 value) = g ∙ put-fits p (at + 5) (littleEndian 2 value) (omega arith) in
+    let behind : p ≡ put out at (head ++ (code ∷ [])) = two ∙ ap (λ (x : List ℕ). put x (at + 4) (code ∷ [])) one ∙ put-next out at head (code ∷ []) (omega arith) in
+    three ∙ ap (λ (x : List ℕ). put x (at + 5) (littleEndian 2 value)) behind ∙ put-next out at (head ++ (code ∷ [])) (littleEndian 2 value) (omega arith)
 
 -- ---- the loop of `put_records`: the records still to be put, from the next code on
 

@@ -19,6 +19,9 @@ use profile_rules::RECORD_SIZE;
 use profile_rules::VALUE_KIND;
 use profile_rules::Written;
 use records::byte_at;
+use records::put_byte;
+use records::put_head;
+use records::put_word;
 use records::stands;
 use records::word_at;
 use settings_rules::Settings;
@@ -62,19 +65,13 @@ fn profile_codes(d: [u64; 4], r: [u64; 4], w: [u64; 4], m: [u64; 4]) -> [u64; 4]
 }
 
 // Puts the record of a code and its value into the output at a position.
-// The high bytes of the length and of the kind are 0.
 fn put_record(out: &mut [u8], at: Position, code: u8, value: u16)
     requires { ⌜ at .0 + recordSize ≤ length (now out) ⌝ }
     ensures { λ _. ⌜ now (out .exit) ≡ put (now (out .entry)) (at .0) (valueRecord code value) ⌝ }
 {
-    let i = at.0;
-    out[i] = RECORD_LENGTH as u8;
-    out[i + 1] = 0;
-    out[i + 2] = VALUE_KIND as u8;
-    out[i + 3] = 0;
-    out[i + 4] = code;
-    out[i + 5] = (value % 256) as u8;
-    out[i + 6] = (value / 256) as u8;
+    put_head(out, at, RECORD_LENGTH, VALUE_KIND);
+    put_byte(out, after(at, 4), code);
+    put_word(out, after(at, 5), value);
 }
 
 // Puts the records of all codes of the set into the output, from its start on.

@@ -7,8 +7,11 @@ use lib.Dec.{leb, eqb}
 use Rattle.records.specs.Numbers.{littleEndian, wordAt}
 
 -- "Records: length (2 bytes, little-endian, counting what follows it), kind (2 bytes, little-endian), body."
+abbrev pub headOf : (len kind : ℕ) → List ℕ
+headOf len kind = littleEndian 2 len ++ littleEndian 2 kind
+
 abbrev pub recordOf : (kind : ℕ) → List ℕ → List ℕ
-recordOf kind body = littleEndian 2 (2 + length body) ++ (littleEndian 2 kind ++ body)
+recordOf kind body = headOf (2 + length body) kind ++ body
 
 -- whether s begins with a record of this length and kind; if not, it is "cut, length or kind wrong". The kind is part of
 -- the length: none is below 2.

@@ -1,17 +1,21 @@
 // Records: length, kind, body, and the little-endian numbers in them.
 //
-// No function asks anything of a position: bytes that are not there count as 0, and no record stands where it would be
-// cut.
+// No function asks anything of a position: bytes that are not there count as 0, no record stands where it would be
+// cut, and bytes that do not fit into an output are not put.
+use buffers::fits;
 use buffers::octet;
+use buffers::put_octet;
 use buffers::wide16;
 use buffers::wide32;
 use message_rules::Position;
 ghost use mathlib.Core.Path.{_≡_};
+ghost use mathlib.Core.List.{[], _∷_};
 ghost use Prim.Native.Nat.{_+_, _*_};
 ghost use lib.ListN.{length, getD, drop};
 ghost use lib.Dec.{leb};
-ghost use Rattle.records.specs.Numbers.{wordAt, longAt};
-ghost use Rattle.records.specs.Records.{beginsWith};
+ghost use Rattle.buffers.specs.Buffers.{putWhole};
+ghost use Rattle.records.specs.Numbers.{littleEndian, wordAt, longAt};
+ghost use Rattle.records.specs.Records.{headOf, beginsWith};
 
 // Returns the number of two bytes, the low one first.
 fn word(low: u8, high: u8) -> u16
@@ -66,15 +70,8 @@ pub fn long_at(s: &[u8], at: Position) -> u32
 fn whole(s: &[u8], at: Position, n: u16) -> bool
     ensures { λ r. ⌜ r ≡ leb (at .0 + (2 + n)) (length (now (s .entry))) ⌝ }
 {
-    let i = at.0;
     let size = n as usize + 2;
-    if s.len() < i {
-        return false;
-    }
-    if s.len() - i < size {
-        return false;
-    }
-    true
+    fits(s.len(), at.0, size)
 }
 
 // Returns whether a record of this length and kind stands at a position: whole, and with these numbers.
@@ -92,4 +89,37 @@ pub fn stands(s: &[u8], at: Position, len: u16, kind: u16) -> bool
         }
     }
     false
+}
+
+// Puts a byte into an output at a position; nothing, where the output ends before it.
+pub fn put_byte(out: &mut [u8], at: Position, b: u8)
+    ensures { λ _. ⌜ now (out .exit) ≡ putWhole (now (out .entry)) (at .0) (b ∷ []) ⌝ }
+{
+    put_octet(out, at.0, b);
+}
+
+// Puts the two bytes of a number into an output at a position, the low one first.
+// Puts nothing, where they do not both fit.
+pub fn put_word(out: &mut [u8], at: Position, n: u16)
+    ensures { λ _. ⌜ now (out .exit) ≡ putWhole (now (out .entry)) (at .0) (littleEndian 2 n) ⌝ }
+{
+    let i = at.0;
+    if fits(out.len(), i, 2) {
+        out[i] = (n % 256) as u8;
+        out[i + 1] = (n / 256) as u8;
+    }
+}
+
+// Puts the head of a record into an output at a position: its length, which counts kind and body, and its kind.
+// Puts nothing, where the four bytes do not all fit.
+pub fn put_head(out: &mut [u8], at: Position, len: u16, kind: u16)
+    ensures { λ _. ⌜ now (out .exit) ≡ putWhole (now (out .entry)) (at .0) (headOf len kind) ⌝ }
+{
+    let i = at.0;
+    if fits(out.len(), i, 4) {
+        out[i] = (len % 256) as u8;
+        out[i + 1] = (len / 256) as u8;
+        out[i + 2] = (kind % 256) as u8;
+        out[i + 3] = (kind / 256) as u8;
+    }
 }

@@ -2,6 +2,7 @@
 use crate::text;
 use buffers::behind;
 use buffers::front;
+use buffers::wide_word;
 use capabilities_rules::Reading;
 use capabilities_rules::limits::DEEPEST;
 use capabilities_rules::limits::MOST_NODES;
@@ -13,15 +14,10 @@ ghost use Rattle.message_rules.specs.Answer.{done};
 ghost use Rattle.capabilities_rules.specs.Limits.{mostNodes};
 ghost use Rattle.capabilities_rules.specs.Outcome.{told, outcome};
 
-// Returns an entry of a buffer as an index.
-fn wide(x: u16) -> usize {
-    x as usize
-}
-
 // Returns the entry `at` of a buffer, or 0 past its end.
 fn entry(values: &[u16], at: usize) -> usize {
     if at < values.len() {
-        return wide(values[at]);
+        return wide_word(values[at]);
     }
     0
 }
@@ -32,7 +28,7 @@ fn levels(parents: &[u16], node: usize) -> usize {
     let mut count = 0;
     while count < DEEPEST {
         if at < parents.len() {
-            at = wide(parents[at]);
+            at = wide_word(parents[at]);
             count += 1;
         } else {
             return count;

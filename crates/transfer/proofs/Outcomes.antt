@@ -1,13 +1,11 @@
 -- What request and receive come to on each way through the code.
 -- Assumes nothing.
 use Prim.Native.Nat.{ℕ, _+_, _-_, _≤_, _<_}
-use mathlib.Core.Path.{_≡_, refl, ap, ap₂, sym, _∙_, subst}
-use mathlib.Core.List.{List, [], _++_, append-nil}
+use mathlib.Core.Path.{_≡_, refl, ap, sym, _∙_, subst}
+use mathlib.Core.List.{List}
 use mathlib.Core.Bool.{Bool, true, false, cond}
 use native.Mathlib.Omega.{arith}
-use lib.ListN.{length, take, drop, drop-of-length-le}
-use lib.Seq.{take-length}
-use borrow.Rule.Slice.PartMut.{midOf, putMid, post-is, mid-len}
+use lib.ListN.{length, take, drop}
 use borrow.Author.Tests.{le-leb, lt-leb, eq-eqb, ne-eqb}
 use lib.Dec.{leb}
 use Rattle.message_rules.specs.Limits.{outputRoom}
@@ -30,19 +28,12 @@ use Rattle.message_rules.specs.declared.TextKind.{TextKind}
 use Rattle.message_rules.specs.declared.TextKind.the-variants.{Capabilities, Table}
 use Rattle.message_rules.specs.Message.{tableCode}
 use Rattle.transfer_rules.specs.Fragment.{Fragment, requestMessage, readReply, fragmentOf}
-use Rattle.buffers.specs.Buffers.{put}
+use Rattle.buffers.specs.Buffers.{putWhole}
+use Rattle.buffers.proofs.Puts.{put-fits}
 use Rattle.transfer_rules.specs.Transfer.{isOpen, room, request, Requests, ReceiveOutcome, counted, stateAfter, accept, judge, receive, Receives}
 use Rattle.transfer.specs.Found.{fragmentFound, FragmentInside, FragmentMeans, ofKind, requestedBy}
 use Rattle.transfer.specs.declared.wire.FragmentRead.{FragmentRead}
 use Rattle.transfer.specs.declared.wire.FragmentRead.the-variants.{Found, Refused}
-
--- a fragment copied into the part of the buffer that it fills
-copied : (buffer d ys : List ℕ) (at : ℕ) → at + length d ≤ length buffer → ys ≡ take (length d) d ++ drop (length d) (midOf at (at + length d - at) buffer) →
-    putMid at (at + length d - at) buffer ys ≡ put buffer at d
-copied buffer d ys at h e =
-    let none : drop (length d) (midOf at (at + length d - at) buffer) ≡ [] = drop-of-length-le (midOf at (at + length d - at) buffer) {i = length d} (omega (arith, mid-len at (at + length d) buffer h)) in
-    let all : ys ≡ d = e ∙ ap₂ (λ (x y : List ℕ). x ++ y) (take-length d) none ∙ append-nil d in
-    ap₂ (λ (x y : List ℕ). take at buffer ++ (x ++ y)) all (post-is at (at + length d) buffer (omega arith))
 
 receives : (x : ReceiveOutcome) {answer : ℕ} {t : Transfer} {buffer : List ℕ} → x ≡ record { answer = answer; transfer = t; buffer = buffer } → Receives x answer t buffer
 receives x e =
@@ -57,11 +48,10 @@ module _ (t : Transfer) (buffer d : List ℕ) (t′ : Transfer) where
   pub accepts-none : room t < t .reached .0 + length d → t′ ≡ counted t Overflowed (t .reached .0) → Receives (accept t buffer d) 11 t′ buffer
   accepts-none h e = rw e (receives (accept t buffer d) (rw (lt-leb (t .reached .0 + length d) (room t) h)))
 
-  pub accepts-all : (s : State) (at : ℕ) (ys : List ℕ) → at ≡ t .reached .0 → length buffer ≡ t .capacity → at + length d ≤ room t → s ≡ stateAfter (length d) →
-      t′ ≡ counted t s (at + length d) → ys ≡ take (length d) d ++ drop (length d) (midOf at (at + length d - at) buffer) →
-      Receives (accept t buffer d) 0 t′ (putMid at (at + length d - at) buffer ys)
-  accepts-all s at ys a z h f e g =
-      rw (e, f, copied buffer d ys at (omega arith) g, a)
+  pub accepts-all : (s : State) (at : ℕ) (buffer′ : List ℕ) → at ≡ t .reached .0 → length buffer ≡ t .capacity → at + length d ≤ room t → s ≡ stateAfter (length d) →
+      t′ ≡ counted t s (at + length d) → buffer′ ≡ putWhole buffer at d → Receives (accept t buffer d) 0 t′ buffer′
+  accepts-all s at buffer′ a z h f e g =
+      rw (g, e, f, put-fits buffer at d (omega arith), a)
       (receives (accept t buffer d) (rw (le-leb (t .reached .0 + length d) (room t) (omega arith))))
 
 -- ---- a fragment of the kind wanted

@@ -5,6 +5,8 @@ ghost use lib.ListN.{length};
 ghost use Rattle.message_rules.specs.Limits.{longestText};
 ghost use Rattle.transfer_rules.specs.Transfer as rules;
 ghost use Rattle.transfer_rules.specs.Transfer.{isOpen, exhaustedAt, stateAfter, Receives};
+use buffers::put;
+use buffers::wide_word;
 use message_rules::TextOffset;
 use message_rules::answer;
 use transfer_rules::Received;
@@ -97,13 +99,6 @@ fn state_after(len: usize) -> State
     }
 }
 
-// Returns an offset as an index of the buffer.
-fn wide(offset: TextOffset) -> usize
-    ensures { λ r. ⌜ (r ≡ offset .0) × (r < 65536) ⌝ }
-{
-    offset.0 as usize
-}
-
 // Puts the data of the fragment wanted into the buffer, at the offset reached.
 // Returns 0 and the transfer behind them.
 // Data past the room are 11: the transfer closes as overflowed, and nothing is put.
@@ -112,7 +107,7 @@ pub(crate) fn accept(transfer: Transfer, buffer: &mut [u8], fragment: &[u8]) -> 
     ensures { λ r. ⌜ Receives (rules.accept transfer (now (buffer .entry)) (now (fragment .entry))) (r .answer) (r .transfer) (now (buffer .exit)) ⌝ }
 {
     let reached = transfer.reached;
-    let at = wide(reached);
+    let at = wide_word(reached.0);
     let end = at + fragment.len();
     if room(transfer.capacity) < end {
         let closed = counted(transfer, State::Overflowed, reached);
@@ -121,7 +116,7 @@ pub(crate) fn accept(transfer: Transfer, buffer: &mut [u8], fragment: &[u8]) -> 
             transfer: closed,
         };
     }
-    bytes::copy(fragment, &mut buffer[at..end]);
+    put(buffer, at, fragment);
     let state = state_after(fragment.len());
     let offset = end as u16;
     let next = counted(transfer, state, TextOffset(offset));

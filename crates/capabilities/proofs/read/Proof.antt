@@ -1,15 +1,13 @@
 -- `capabilities::read` meets its contract: the checker's answer, and on acceptance what the filler leaves.
 use Prim.Native.Nat.{ℕ}
-use mathlib.Core.Path.{_≡_, refl, sym, ap, _∙_}
+use mathlib.Core.Path.{_≡_, sym, ap, _∙_}
 use mathlib.Core.List.{List}
 use borrow.Author.Needs.{needs}
 use Rattle.capabilities_rules.specs.Buffers.{Buffers, buffers, bufferRoom}
 use Rattle.capabilities_rules.specs.Outcome.{outcome, isAccepted}
 use Rattle.capabilities_rules.specs.declared.Reading.the-variants.{Accepted, Refused}
 use Rattle.capabilities_rules.specs.Nodes.{nodesOf}
-use Rattle.capabilities_rules.proofs.Whole.{accepted}
 use Rattle.capabilities_rules.proofs.Demand2.{refusal-leaves}
-use Rattle.capabilities.proofs.Stored.{filled}
 use Rattle.capabilities.proofs.read.Statement.{statement}
 use Rattle.capabilities.proofs.read.Tie as tie
 
@@ -22,18 +20,14 @@ check-requires c κs = search needs
 enum-known-judged : tie.Need-enum-known-judged
 enum-known-judged c = search needs
 
-sub-fill-group : tie.Need-sub-fill-group
-sub-fill-group c = search needs
-
-fill-group-requires : tie.Need-fill-group-requires
-fill-group-requires c κs =
+fill-requires : tie.Need-fill-requires
+fill-requires c κs =
     let x = c .before .before .before .before .before .before .before .before .before .before .before .before .before .before .args in
     let s : List ℕ = x .text .now in
     let t : Buffers = buffers (x .starts .now) (x .lengths .now) (x .parents .now) (x .groups .now) in
     let a = c .before .before .before .before .before .judged .given in
     let e : outcome (bufferRoom t) s ≡ Accepted (a .0 .0) = ap (λ (n : ℕ). outcome n s) (sym (c .before .before .before .before .before .before .before .before .room-of .ensures)) ∙ sym (c .before .before .before .before .before .before .before .check .ensures) ∙ a .1 in
-    let ok = accepted (bufferRoom t) (a .0 .0) s e in
-    record { small = ok .small; begun = ok .some; levels = search needs; fits = search needs; read = ap isAccepted (ok .inner) }
+    ap isAccepted e
 
 enum-known-judged-2 : tie.Need-enum-known-judged-2
 enum-known-judged-2 c = search needs
@@ -57,8 +51,7 @@ returns c =
     let t : Buffers = buffers (x .starts .now) (x .lengths .now) (x .parents .now) (x .groups .now) in
     let a = c .before .before .before .before .before .before .before .before .before .before .before .before .before .before .judged .given in
     let e : outcome (bufferRoom t) s ≡ Accepted (a .0 .0) = ap (λ (n : ℕ). outcome n s) (sym (c .before .before .before .before .before .before .before .before .before .before .before .before .before .before .before .before .before .room-of .ensures)) ∙ sym (c .before .before .before .before .before .before .before .before .before .before .before .before .before .before .before .before .check .ensures) ∙ a .1 in
-    let r = c .before .before .before .before .before .before .before .before .fill-group in
-    record { answer = sym e; stored = filled (a .0 .0) s t (buffers (r .last .1 .1 .1 .1 .1 .0) (r .last .1 .1 .1 .1 .1 .1 .0) (r .last .1 .1 .1 .1 .1 .1 .1 .0) (r .last .1 .1 .1 .1 .1 .1 .1 .1 .0)) (r .result .next .0) (r .result .count) e (r .ensures) }
+    record { answer = sym e; stored = c .before .before .before .before .before .before .before .before .fill .ensures }
 
 returns-2 : tie.Need-returns-2
 returns-2 c =
@@ -76,8 +69,7 @@ read-spec =
     room-of-requires
     check-requires
     enum-known-judged
-    sub-fill-group
-    fill-group-requires
+    fill-requires
     enum-known-judged-2
     same-length
     same-length-2

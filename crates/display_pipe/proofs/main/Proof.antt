@@ -39,8 +39,8 @@ returns c = search needs
 slice-aggregate-front : tie.Need-slice-aggregate-front Inv-loop μ-loop
 slice-aggregate-front c = search needs
 
-wide-requires : tie.Need-wide-requires Inv-loop μ-loop
-wide-requires c κs = search needs
+wide-word-requires : tie.Need-wide-word-requires Inv-loop μ-loop
+wide-word-requires c κs = search needs
 
 front-requires : tie.Need-front-requires Inv-loop μ-loop
 front-requires c κs = search needs
@@ -114,7 +114,7 @@ main-spec =
     complain-requires
     returns
     slice-aggregate-front
-    wide-requires
+    wide-word-requires
     front-requires
     slice-aggregate-ddcci-display-step
     slice-aggregate-front-2

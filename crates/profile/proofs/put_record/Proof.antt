@@ -1,88 +1,51 @@
--- `put_record` stores seven bytes in a row.
+-- `put_record` puts the head, the code and the value one behind the other.
+use mathlib.Core.Path.{sym, ap, _∙_}
+use mathlib.Core.List.{[], _∷_}
+use Prim.Native.Nat.{ℕ}
 use native.Mathlib.Omega.{arith}
-use lib.ListN.{length-set}
 use borrow.Author.Needs.{needs}
-use Rattle.profile.proofs.Outputs.{seven-stores}
+use Rattle.buffers.specs.Buffers.{putWhole}
+use Rattle.records.specs.Numbers.{littleEndian}
+use Rattle.profile.proofs.Outputs.{record-parts}
 use Rattle.profile.proofs.put_record.Statement.{statement}
 use Rattle.profile.proofs.put_record.Tie as tie
 
-cast-out : tie.Need-cast-out
-cast-out c = search needs
+put-head-requires : tie.Need-put-head-requires
+put-head-requires c κs = search needs
 
-slice-write-out : tie.Need-slice-write-out
-slice-write-out c = search needs
+after-requires : tie.Need-after-requires
+after-requires c κs = search needs
 
-add-out : tie.Need-add-out
-add-out c = search needs
+put-byte-requires : tie.Need-put-byte-requires
+put-byte-requires c κs = search needs
 
-slice-write-out-2 : tie.Need-slice-write-out-2
-slice-write-out-2 c = simp length-set (omega arith)
+after-requires-2 : tie.Need-after-requires-2
+after-requires-2 c κs = search needs
 
-cast-out-2 : tie.Need-cast-out-2
-cast-out-2 c = search needs
-
-add-out-2 : tie.Need-add-out-2
-add-out-2 c = search needs
-
-slice-write-out-3 : tie.Need-slice-write-out-3
-slice-write-out-3 c = simp length-set (omega arith)
-
-add-out-3 : tie.Need-add-out-3
-add-out-3 c = search needs
-
-slice-write-out-4 : tie.Need-slice-write-out-4
-slice-write-out-4 c = simp length-set (omega arith)
-
-add-out-4 : tie.Need-add-out-4
-add-out-4 c = search needs
-
-slice-write-out-5 : tie.Need-slice-write-out-5
-slice-write-out-5 c = simp length-set (omega arith)
-
-cast-out-3 : tie.Need-cast-out-3
-cast-out-3 c = search needs
-
-add-out-5 : tie.Need-add-out-5
-add-out-5 c = search needs
-
-slice-write-out-6 : tie.Need-slice-write-out-6
-slice-write-out-6 c = simp length-set (omega arith)
-
-cast-out-4 : tie.Need-cast-out-4
-cast-out-4 c = search needs
-
-add-out-6 : tie.Need-add-out-6
-add-out-6 c = search needs
-
-slice-write-out-7 : tie.Need-slice-write-out-7
-slice-write-out-7 c = simp length-set (omega arith)
+put-word-requires : tie.Need-put-word-requires
+put-word-requires c κs = search needs
 
 same-length : tie.Need-same-length
-same-length c = simp length-set
+same-length c = search needs
 
 returns : tie.Need-returns
-returns c = seven-stores (c .args .out .now) (c .args .at .0) _ _ _ _ _ _ _ (c .pre)
+returns c =
+    let a = c .before .before .before .before .before .before .before .before .before .before .before .before .before .before .before .args in
+    let head = c .before .before .before .before .before .before .before .before .before .before .before .before .put-head in
+    let byte = c .before .before .before .before .before .before .before .put-byte in
+    let word = c .before .before .put-word in
+    record-parts (a .out .now) (a .at .0) (a .code) (a .value) (head .last .0) (byte .last .0) (word .last .0) (c .before .before .before .before .before .before .before .before .before .before .before .before .before .before .before .pre) (head .ensures)
+    (byte .ensures ∙ ap (λ (i : ℕ). putWhole (head .last .0) i (a .code ∷ [])) (c .before .before .before .before .before .before .before .before .after .ensures))
+    (word .ensures ∙ ap (λ (i : ℕ). putWhole (byte .last .0) i (littleEndian 2 (a .value))) (c .before .before .before .after2 .ensures))
 
 pub put-record-spec : {M : Type 1} → statement M
 put-record-spec =
     tie.close
     (tie.spec
-    cast-out
-    slice-write-out
-    add-out
-    slice-write-out-2
-    cast-out-2
-    add-out-2
-    slice-write-out-3
-    add-out-3
-    slice-write-out-4
-    add-out-4
-    slice-write-out-5
-    cast-out-3
-    add-out-5
-    slice-write-out-6
-    cast-out-4
-    add-out-6
-    slice-write-out-7
+    put-head-requires
+    after-requires
+    put-byte-requires
+    after-requires-2
+    put-word-requires
     same-length
     returns)

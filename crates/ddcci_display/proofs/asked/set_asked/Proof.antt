@@ -7,20 +7,20 @@ use borrow.Author.Needs.{needs}
 use Rattle.ddcci_display.proofs.asked.set_asked.Statement.{statement}
 use Rattle.ddcci_display.proofs.asked.set_asked.Tie as tie
 
-shared-slice-read-wide : tie.Need-shared-slice-read-wide
-shared-slice-read-wide c = search needs
+shared-slice-read-wide16 : tie.Need-shared-slice-read-wide16
+shared-slice-read-wide16 c = search needs
 
-wide-requires : tie.Need-wide-requires
-wide-requires c κs = search needs
+wide16-requires : tie.Need-wide16-requires
+wide16-requires c κs = search needs
 
 mul-value : tie.Need-mul-value
 mul-value c = search needs
 
-shared-slice-read-wide-2 : tie.Need-shared-slice-read-wide-2
-shared-slice-read-wide-2 c = search needs
+shared-slice-read-wide16-2 : tie.Need-shared-slice-read-wide16-2
+shared-slice-read-wide16-2 c = search needs
 
-wide-requires-2 : tie.Need-wide-requires-2
-wide-requires-2 c κs = search needs
+wide16-requires-2 : tie.Need-wide16-requires-2
+wide16-requires-2 c κs = search needs
 
 add-value : tie.Need-add-value
 add-value c = search needs
@@ -32,7 +32,7 @@ asked-of-requires : tie.Need-asked-of-requires
 asked-of-requires c κs = search needs
 
 returns : tie.Need-returns
-returns c = let a = c .before .before .before .before .before .before .before .before .args in rw (c .asked-of .ensures, le-leb 6 (length (a .message .now)) (c .before .before .before .before .before .before .if1 .taken), c .before .before .wide2 .ensures .0, c .before .before .before .before .wide .ensures .0)
+returns c = let a = c .before .before .before .before .before .before .before .before .args in rw (c .asked-of .ensures, le-leb 6 (length (a .message .now)) (c .before .before .before .before .before .before .if1 .taken), c .before .before .wide162 .ensures .0, c .before .before .before .before .wide16 .ensures .0)
 
 asked-of-requires-2 : tie.Need-asked-of-requires-2
 asked-of-requires-2 c κs = search needs
@@ -44,11 +44,11 @@ pub set-asked-spec : {M : Type 1} → statement M
 set-asked-spec =
     tie.close
     (tie.spec
-    shared-slice-read-wide
-    wide-requires
+    shared-slice-read-wide16
+    wide16-requires
     mul-value
-    shared-slice-read-wide-2
-    wide-requires-2
+    shared-slice-read-wide16-2
+    wide16-requires-2
     add-value
     shared-slice-read-asked-of
     asked-of-requires

@@ -14,14 +14,14 @@ abbrev μ-loop : tie.MeasureT-loop
 loop-holds : tie.Need-loop-holds Inv-loop μ-loop
 loop-holds c = search needs
 
-mul-wide : tie.Need-mul-wide Inv-loop μ-loop
-mul-wide c = search needs
+mul-wide-word : tie.Need-mul-wide-word Inv-loop μ-loop
+mul-wide-word c = search needs
 
-shared-slice-read-wide : tie.Need-shared-slice-read-wide Inv-loop μ-loop
-shared-slice-read-wide c = search needs
+shared-slice-read-wide-word : tie.Need-shared-slice-read-wide-word Inv-loop μ-loop
+shared-slice-read-wide-word c = search needs
 
-wide-requires : tie.Need-wide-requires Inv-loop μ-loop
-wide-requires c κs = search needs
+wide-word-requires : tie.Need-wide-word-requires Inv-loop μ-loop
+wide-word-requires c κs = search needs
 
 add-count : tie.Need-add-count Inv-loop μ-loop
 add-count c = search needs
@@ -45,9 +45,9 @@ levels-spec =
     Inv-loop
     μ-loop
     loop-holds
-    mul-wide
-    shared-slice-read-wide
-    wide-requires
+    mul-wide-word
+    shared-slice-read-wide-word
+    wide-word-requires
     add-count
     loop-less
     loop-again

@@ -1,4 +1,5 @@
--- `transfer::steps::accept` meets its contract: past the room nothing is written, else the part of the buffer from the offset reached takes the fragment.
+-- `transfer::steps::accept` meets its contract: past the room nothing is written.
+-- Else the fragment is put at the offset reached.
 -- Assumes nothing.
 use native.Mathlib.Omega.{arith}
 use denote.Ref.{now}
@@ -8,8 +9,8 @@ use borrow.Author.Needs.{needs}
 use Rattle.transfer.proofs.steps.accept.Statement.{statement}
 use Rattle.transfer.proofs.steps.accept.Tie as tie
 
-wide-requires : tie.Need-wide-requires
-wide-requires c κs = search needs
+wide-word-requires : tie.Need-wide-word-requires
+wide-word-requires c κs = search needs
 
 add-end : tie.Need-add-end
 add-end c = search needs
@@ -24,19 +25,10 @@ returns : tie.Need-returns
 returns c =
     let a = c .before .before .before .before .before .before .before .args in
     accepts-none (a .transfer) (now (a .buffer)) (now (a .fragment)) (c .counted .result)
-    (omega (arith, c .before .before .before .wide .ensures .0, c .before .before .room .ensures, c .before .if1 .taken)) (c .counted .ensures)
+    (omega (arith, c .before .before .before .wide-word .ensures .0, c .before .before .room .ensures, c .before .if1 .taken)) (c .counted .ensures)
 
-sub-copy : tie.Need-sub-copy
-sub-copy c = search needs
-
-part-copy-start : tie.Need-part-copy-start
-part-copy-start c = search needs
-
-part-copy-end : tie.Need-part-copy-end
-part-copy-end c = search needs
-
-copy-requires : tie.Need-copy-requires
-copy-requires c κs = search needs
+put-requires : tie.Need-put-requires
+put-requires c κs = search needs
 
 state-after-requires : tie.Need-state-after-requires
 state-after-requires c κs = search needs
@@ -55,24 +47,21 @@ returns-2 c =
     let a = c .before .before .before .before .before .before .before .before .before .before .before .before .args in
     let q = c .before .before .before .before .before .before .before .before .before .before .before .before .pre in
     accepts-all (a .transfer) (now (a .buffer)) (now (a .fragment)) (c .counted2 .result) (c .before .state-after .result)
-    (c .before .before .before .before .before .before .before .before .wide .result) (c .before .before .before .before .copy .last .1 .0)
-    (c .before .before .before .before .before .before .before .before .wide .ensures .0) (q .1)
+    (c .before .before .before .before .before .before .before .before .wide-word .result) (c .before .before .before .before .put .last .0)
+    (c .before .before .before .before .before .before .before .before .wide-word .ensures .0) (q .1)
     (omega (arith, c .before .before .before .before .before .before .before .room .ensures, c .before .before .before .before .before .before .if1 .left))
-    (c .before .state-after .ensures) (c .counted2 .ensures) (c .before .before .before .before .copy .ensures .1)
+    (c .before .state-after .ensures) (c .counted2 .ensures) (c .before .before .before .before .put .ensures)
 
 pub accept-spec : {M : Type 1} → statement M
 accept-spec =
     tie.close
     (tie.spec
-    wide-requires
+    wide-word-requires
     add-end
     room-requires
     counted-requires
     returns
-    sub-copy
-    part-copy-start
-    part-copy-end
-    copy-requires
+    put-requires
     state-after-requires
     cast-offset
     counted-requires-2

@@ -9,10 +9,10 @@ use message_rules::limits::LONGEST_TEXT;
 
 // Writes the tree, or why there is none.
 fn show_string(string: &[u8]) {
-    if show::tree::write(STDOUT_FILENO, b"", string) {
+    if show_tree::write(STDOUT_FILENO, b"", string) {
         return;
     }
-    show::tree::explain(STDERR_FILENO, b"capabilities_tree: ", string);
+    show_tree::explain(STDERR_FILENO, b"capabilities_tree: ", string);
 }
 
 fn main() {

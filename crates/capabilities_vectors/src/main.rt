@@ -99,7 +99,7 @@ fn answers(text: &[u8], room: usize, wanted: Wanted) -> bool {
     let mut lengths = [0u16; ROOM];
     let mut parents = [0u16; ROOM];
     let mut groups = [0u8; ROOM];
-    let reading = capabilities::read(
+    let reading = capabilities_reader::read(
         text,
         &mut starts,
         &mut lengths,

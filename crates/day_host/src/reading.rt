@@ -152,7 +152,7 @@ fn tree(kind: TextKind, number: u64, text: &[u8]) -> bool {
     match kind {
         TextKind::Capabilities => {
             if number == 1 {
-                return show::tree::write(OUT, b"      ", text);
+                return show_tree::write(OUT, b"      ", text);
             }
             true
         }

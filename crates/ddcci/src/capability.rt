@@ -47,5 +47,5 @@ pub extern "C" fn ddcci_read_capabilities(
 ) -> ReadingNumbers
     ensures { λ r. ⌜ ReadsNumbers (now (text .entry)) (buffers (now (starts .entry)) (now (lengths .entry)) (now (parents .entry)) (now (groups .entry))) (buffers (now (starts .exit)) (now (lengths .exit)) (now (parents .exit)) (now (groups .exit))) r ⌝ }
 {
-    reading_numbers(capabilities::read(text, starts, lengths, parents, groups))
+    reading_numbers(capabilities_reader::read(text, starts, lengths, parents, groups))
 }

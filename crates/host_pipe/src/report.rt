@@ -95,7 +95,7 @@ fn compared(what: &[u8], r: Reading, wanted: &[u8]) -> bool {
 // Writes the capabilities string's tree where what was read is what was sent, and returns whether all that held.
 pub(crate) fn string(r: Reading, wanted: &[u8]) -> bool {
     if compared(b"capabilities string", r, wanted) {
-        return show::tree::write(TO, b"  ", wanted);
+        return show_tree::write(TO, b"  ", wanted);
     }
     false
 }

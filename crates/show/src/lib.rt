@@ -1,10 +1,9 @@
 // What the programs write for people.
-// They write texts, numbers in columns, answer numbers with their meaning, and the tree of a capabilities string.
+// They write texts, numbers in columns and answer numbers with their meaning; show_tree writes capabilities strings.
 // The first parameter is where to: standard output or standard error.
 // No contract can speak of what is written: these functions are proved safe and ending, and show_vectors runs them.
 pub mod answer;
 pub mod input;
-pub mod tree;
 
 // Writes a text as it is.
 pub fn text(to: i32, s: &[u8]) {

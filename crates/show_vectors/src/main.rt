@@ -14,8 +14,8 @@ fn answers() {
 
 // Writes a string's tree behind a margin, why it is refused where it is, and whether it was accepted.
 fn string(s: &[u8]) {
-    let accepted = show::tree::write(TO, b"  ", s);
-    show::tree::explain(TO, b"  why: ", s);
+    let accepted = show_tree::write(TO, b"  ", s);
+    show_tree::explain(TO, b"  why: ", s);
     if accepted {
         show::text(TO, b"accepted\n");
     } else {

@@ -1,11 +1,11 @@
--- `capabilities_filler::put_node` meets its contract: each value goes to its own buffer, the last one as `flag` ensures it.
+-- `capabilities_reader::filler::put_node` meets its contract: each value goes to its own buffer, the last one as `flag` ensures it.
 use Prim.Native.Nat.{ℕ, _-_}
 use mathlib.Core.Path.{ap}
 use lib.ListN.{set}
 use Rattle.capabilities_rules.specs.Buffers.{buffers}
 use borrow.Author.Needs.{needs}
-use Rattle.capabilities_filler.proofs.put_node.Statement.{statement}
-use Rattle.capabilities_filler.proofs.put_node.Tie as tie
+use Rattle.capabilities_reader.proofs.filler.put_node.Statement.{statement}
+use Rattle.capabilities_reader.proofs.filler.put_node.Tie as tie
 
 cast-starts : tie.Need-cast-starts
 cast-starts c = search needs

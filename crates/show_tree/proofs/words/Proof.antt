@@ -1,8 +1,8 @@
--- `show::tree::words` is safe and ends: it goes through the nodes in order.
+-- `show_tree::words` is safe and ends: it goes through the nodes in order.
 use Prim.Native.Nat.{_-_, _≤_}
 use borrow.Author.Needs.{needs}
-use Rattle.show.proofs.tree.words.Statement.{statement}
-use Rattle.show.proofs.tree.words.Tie as tie
+use Rattle.show_tree.proofs.words.Statement.{statement}
+use Rattle.show_tree.proofs.words.Tie as tie
 
 abbrev Inv-loop : tie.InvT-loop
 Inv-loop to margin string starts lengths parents count node₀ node = node ≤ count

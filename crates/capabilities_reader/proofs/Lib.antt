@@ -1,3 +1,3 @@
 -- What the proofs of the filler of a group and of the whole filler use.
-pub mod Filler
+pub mod Filling
 pub mod Stored

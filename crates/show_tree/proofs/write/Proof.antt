@@ -1,4 +1,4 @@
--- `show::tree::write` answers whether the string is accepted: the number of its reading is 0,
+-- `show_tree::write` answers whether the string is accepted: the number of its reading is 0,
 -- or a refusal's, which is not.
 -- Assumes nothing.
 use Prim.Native.Nat.{ℕ}
@@ -11,8 +11,8 @@ use Rattle.capabilities_rules.specs.Outcome.{told, outcome}
 use Rattle.capabilities_rules.specs.declared.Reading.{Reading}
 use Rattle.capabilities_rules.specs.declared.Reading.the-variants.{Refused}
 use Rattle.capabilities_rules.proofs.Demand2.{refusal-number}
-use Rattle.show.proofs.tree.write.Statement.{statement}
-use Rattle.show.proofs.tree.write.Tie as tie
+use Rattle.show_tree.proofs.write.Statement.{statement}
+use Rattle.show_tree.proofs.write.Tie as tie
 
 read-requires : tie.Need-read-requires
 read-requires c κs = search needs

@@ -1,5 +1,4 @@
 // The tree of a capabilities string, one word a line; and of a refused one, what is wrong with it.
-use crate::text;
 use buffers::behind;
 use buffers::front;
 use buffers::wide_word;
@@ -8,6 +7,7 @@ use capabilities_rules::limits::DEEPEST;
 use capabilities_rules::limits::MOST_NODES;
 use message_rules::Position;
 use message_rules::answer;
+use show::text;
 ghost use mathlib.Core.Path.{_≡_};
 ghost use lib.Dec.{eqb};
 ghost use Rattle.message_rules.specs.Answer.{done};
@@ -66,8 +66,8 @@ fn words(
 // Writes `refused N at P`.
 fn refusal(to: i32, margin: &[u8], number: u8, place: Position) {
     text(to, margin);
-    crate::counted(to, b"refused ", number as u64, b" at ");
-    crate::number(to, place.0 as u64, 0);
+    show::counted(to, b"refused ", number as u64, b" at ");
+    show::number(to, place.0 as u64, 0);
     text(to, b"\n");
 }
 
@@ -91,7 +91,13 @@ fn read(string: &[u8]) -> Nodes
     let mut lengths = [0u16; MOST_NODES];
     let mut parents = [0u16; MOST_NODES];
     let mut groups = [0u8; MOST_NODES];
-    let reading = capabilities::read(string, &mut starts, &mut lengths, &mut parents, &mut groups);
+    let reading = capabilities_reader::read(
+        string,
+        &mut starts,
+        &mut lengths,
+        &mut parents,
+        &mut groups,
+    );
     Nodes {
         starts: starts,
         lengths: lengths,
@@ -131,8 +137,8 @@ pub fn write(to: i32, margin: &[u8], string: &[u8]) -> bool
 
 // Writes which byte is refused. A line end behind the string is the one that `echo` leaves.
 fn refused_byte(to: i32, place: Position, b: u8) {
-    crate::counted(to, b": byte ", place.0 as u64, b" is ");
-    crate::hex(to, b);
+    show::counted(to, b": byte ", place.0 as u64, b" is ");
+    show::hex(to, b);
     if b == b'\n' {
         text(
             to,
@@ -151,7 +157,7 @@ fn spot(to: i32, string: &[u8], number: u8, place: Position) {
     } else if at == 0 {
         text(to, b": it is empty");
     } else {
-        crate::counted(
+        show::counted(
             to,
             b": it ends at byte ",
             at as u64,
@@ -169,7 +175,7 @@ pub fn explain(to: i32, who: &[u8], string: &[u8]) {
         Reading::Accepted(_) => {}
         Reading::Refused(number, place) => {
             text(to, who);
-            crate::answer::meaning(to, number);
+            show::answer::meaning(to, number);
             spot(to, string, number, place);
             text(to, b"\n");
         }

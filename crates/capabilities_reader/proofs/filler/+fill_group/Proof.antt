@@ -1,4 +1,4 @@
--- `capabilities_filler::fill_group` meets its contract. It calls itself with a level less.
+-- `capabilities_reader::filler::fill_group` meets its contract. It calls itself with a level less.
 -- The loop's invariant: what was to be stored at the loop's first position, past the spaces at the list's front, is what
 -- is still to be stored from `at` on, and the string is accepted from there. The measure is what is left of the string.
 use Prim.Native.Nat.{ℕ, _+_, _-_, _<_, _≤_}
@@ -14,14 +14,14 @@ use borrow.Fn.PlainCycle.{Measures, is, falls, and}
 use Rattle.capabilities_rules.specs.Buffers.{Buffers, buffers, bufferRoom}
 use Rattle.capabilities_scan.specs.Scan.{around}
 use Rattle.capabilities_scan.proofs.Runs.{Passed, within, letters-within, passed-within}
-use Rattle.capabilities_filler.proofs.Filler.{SameSize, room-same, Filling, began, from-start, goes-on, letter-there, inner-read, past-word, past-group, at-close, roomy, low}
-use Rattle.capabilities_filler.proofs.+fill_group.{statement}
-use Rattle.capabilities_filler.proofs.+fill_group.Tie.{close}
-use Rattle.capabilities_filler.proofs.fill_group.Reads as fill-group
-use Rattle.capabilities_filler.proofs.fill_group.Kinds as fill-group-kinds
-use Rattle.capabilities_filler.proofs.+fill_group.Lts-fill_group as fill-group-lts
+use Rattle.capabilities_reader.proofs.Filling.{SameSize, room-same, Filling, began, from-start, goes-on, letter-there, inner-read, past-word, past-group, at-close, roomy, low}
+use Rattle.capabilities_reader.proofs.filler.+fill_group.{statement}
+use Rattle.capabilities_reader.proofs.filler.+fill_group.Tie.{close}
+use Rattle.capabilities_reader.proofs.filler.fill_group.Reads as fill-group
+use Rattle.capabilities_reader.proofs.filler.fill_group.Kinds as fill-group-kinds
+use Rattle.capabilities_reader.proofs.filler.+fill_group.Lts-fill_group as fill-group-lts
 use Rattle.capabilities_scan.proofs.opens_at.Reads as opens-at-reads
-use Rattle.capabilities_filler.proofs.put_node.Reads as put-node-reads
+use Rattle.capabilities_reader.proofs.filler.put_node.Reads as put-node-reads
 use Rattle.capabilities_scan.proofs.skip_spaces.Reads as skip-spaces-reads
 use Rattle.capabilities_scan.proofs.word_end.Reads as word-end-reads
 

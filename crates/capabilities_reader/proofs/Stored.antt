@@ -18,7 +18,7 @@ use Rattle.capabilities_rules.specs.Buffers.{Buffers, buffers, bufferRoom, writ
 use Rattle.capabilities_rules.specs.declared.Reading.{Reading}
 use Rattle.capabilities_rules.specs.declared.Reading.the-variants.{Accepted, Refused}
 use Rattle.capabilities_rules.proofs.Whole.{accepted, at-end, nodes-open, judge-count, outcome-short}
-use Rattle.capabilities_filler.specs.Filler.{put, stored, Fillable, Filled}
+use Rattle.capabilities_reader.specs.Filler.{put, stored, Fillable, Filled}
 
 pub stored-sets : (xs : List Node) (t : Buffers) (n : ℕ)
     → stored t n xs ≡ buffers (sets (t .starts) n (map (λ x. x .start) xs)) (sets (t .lengths) n (map (λ x. x .size) xs)) (sets (t .parents) n (map (λ x. x .parent) xs)) (sets (t .groups) n (map (λ x. x .group) xs))

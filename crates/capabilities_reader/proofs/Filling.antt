@@ -21,7 +21,7 @@ use Rattle.capabilities_rules.specs.Kinds.{Enter, Leave, Begin, Refuse}
 use Rattle.capabilities_rules.proofs.Laws.{nodes-at, taken, not-deep, not-full, letters-at, opens-at, opens-end, not-ended}
 use Rattle.capabilities_rules.proofs.Bytes.{KindIs, kind-is}
 use Rattle.capabilities_scan.specs.Scan.{spaces, around}
-use Rattle.capabilities_filler.specs.Filler.{node, put, stored, Filled}
+use Rattle.capabilities_reader.specs.Filler.{node, put, stored, Filled}
 use Rattle.capabilities_scan.proofs.Runs.{Passed, begins, no-spaces, passed, settled, enters, behind, within, free-spaces, first-of, none-here, counts-spaces, tight-after, spaces-within, passed-within, closes}
 
 -- the buffers are as long as they were

@@ -13,7 +13,7 @@ ghost use Rattle.message_rules.specs.Limits.{longestText};
 ghost use Rattle.capabilities_rules.specs.Outcome.{outcome, isAccepted};
 ghost use Rattle.capabilities_rules.specs.Nodes.{nodesOf};
 ghost use Rattle.capabilities_rules.specs.Buffers.{buffers, bufferRoom, written};
-ghost use Rattle.capabilities_filler.specs.Filler.{node, put, Fillable, Filled};
+ghost use Rattle.capabilities_reader.specs.Filler.{node, put, Fillable, Filled};
 
 // The position past a group, and the nodes made by then.
 struct Past {
@@ -105,9 +105,8 @@ fn fill_group(
 }
 
 // Stores the nodes of an accepted string.
-// It needs that the string is accepted, and tests nothing again: a judged string is not judged a second time.
-// `capabilities::read` alone calls it, behind the checker.
-pub fn fill(
+// It is called behind the checker alone, and judges nothing a second time.
+pub(crate) fn fill(
     text: &[u8],
     starts: &mut [u16],
     lengths: &mut [u16],

@@ -1,4 +1,4 @@
--- `capabilities::read` meets its contract: the checker's answer, and on acceptance what the filler leaves.
+-- `capabilities_reader::read` meets its contract: the checker's answer, and on acceptance what the filler leaves.
 use Prim.Native.Nat.{ℕ}
 use mathlib.Core.Path.{_≡_, sym, ap, _∙_}
 use mathlib.Core.List.{List}
@@ -8,8 +8,8 @@ use Rattle.capabilities_rules.specs.Outcome.{outcome, isAccepted}
 use Rattle.capabilities_rules.specs.declared.Reading.the-variants.{Accepted, Refused}
 use Rattle.capabilities_rules.specs.Nodes.{nodesOf}
 use Rattle.capabilities_rules.proofs.Demand2.{refusal-leaves}
-use Rattle.capabilities.proofs.read.Statement.{statement}
-use Rattle.capabilities.proofs.read.Tie as tie
+use Rattle.capabilities_reader.proofs.read.Statement.{statement}
+use Rattle.capabilities_reader.proofs.read.Tie as tie
 
 room-of-requires : tie.Need-room-of-requires
 room-of-requires c κs = search needs

@@ -1,9 +1,9 @@
--- `show::tree::levels` is safe and ends: at most eight levels are counted.
+-- `show_tree::levels` is safe and ends: at most eight levels are counted.
 use Prim.Native.Nat.{_-_, _≤_}
 use Rattle.capabilities_rules.specs.Limits.{deepest}
 use borrow.Author.Needs.{needs}
-use Rattle.show.proofs.tree.levels.Statement.{statement}
-use Rattle.show.proofs.tree.levels.Tie as tie
+use Rattle.show_tree.proofs.levels.Statement.{statement}
+use Rattle.show_tree.proofs.levels.Tie as tie
 
 abbrev Inv-loop : tie.InvT-loop
 Inv-loop parents node at₀ count₀ at count = count ≤ deepest

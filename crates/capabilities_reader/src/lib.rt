@@ -1,9 +1,10 @@
 // Reads a capabilities string: accepted or refused as document 01's grammar says.
 // Its tree is given as nodes in four lent buffers.
 // A checker judges the whole string before the filler stores the first node, so that a refusal changes no buffer.
+mod filler;
+
 use buffers::least;
 use capabilities_checker::check;
-use capabilities_filler::fill;
 use capabilities_rules::Reading;
 use capabilities_rules::limits::MOST_NODES;
 ghost use mathlib.Core.Path.{_≡_};
@@ -31,7 +32,7 @@ pub fn read(
     let judged = check(text, room);
     match judged {
         Reading::Accepted(count) => {
-            fill(text, starts, lengths, parents, groups);
+            filler::fill(text, starts, lengths, parents, groups);
             Reading::Accepted(count)
         }
         Reading::Refused(number, place) => Reading::Refused(number, place),

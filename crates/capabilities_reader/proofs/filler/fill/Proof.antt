@@ -1,12 +1,12 @@
--- `capabilities_filler::fill` meets its contract: an accepted string's outer group can be filled, and then all its nodes
+-- `capabilities_reader::filler::fill` meets its contract: an accepted string's outer group can be filled, and then all its nodes
 -- are stored.
 use mathlib.Core.List.{List}
 use Prim.Native.Nat.{ℕ}
 use borrow.Author.Needs.{needs}
 use Rattle.capabilities_rules.specs.Buffers.{Buffers, buffers}
-use Rattle.capabilities_filler.proofs.Stored.{fillable, filled}
-use Rattle.capabilities_filler.proofs.fill.Statement.{statement}
-use Rattle.capabilities_filler.proofs.fill.Tie as tie
+use Rattle.capabilities_reader.proofs.Stored.{fillable, filled}
+use Rattle.capabilities_reader.proofs.filler.fill.Statement.{statement}
+use Rattle.capabilities_reader.proofs.filler.fill.Tie as tie
 
 sub-fill-group : tie.Need-sub-fill-group
 sub-fill-group c = search needs

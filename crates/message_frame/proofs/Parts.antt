@@ -71,7 +71,7 @@ module _ (a : Address) (p : Bool) (s : List ℕ) where
 -- the sum r that the code takes, of all bytes but the last: the last byte is r just where the sum of all is 0
 module _ (seed r n : ℕ) (s : List ℕ) (e : n ≡ bodyLength s) (q : r ≡ xorAll seed (take (n + 2) s)) where
   -- where the slice ends before its last byte, that byte counts as 0
-  pub whole-sum : xorAll seed (take (bodyLength s + 3) s) ≡ xorAll seed (take (n + 2) s ++ (getD s (n + 2) 0 ∷ []))
+  whole-sum : xorAll seed (take (bodyLength s + 3) s) ≡ xorAll seed (take (n + 2) s ++ (getD s (n + 2) 0 ∷ []))
   whole-sum = go (ltb (n + 2) (length s)) refl
     where
       go : (b : Bool) → ltb (n + 2) (length s) ≡ b → xorAll seed (take (bodyLength s + 3) s) ≡ xorAll seed (take (n + 2) s ++ (getD s (n + 2) 0 ∷ []))

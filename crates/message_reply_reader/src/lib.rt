@@ -76,8 +76,7 @@ const OFFSET: Position = Position(3);
 const DATA: Position = Position(5);
 
 // Returns the byte at a position.
-// For fields, whose tests have shown that they are there: the compiled code would keep a test that message_frame's
-// functions do not.
+// It is for fields, which the tests have shown to be there: of a byte or 0 the compiled code would keep a test here.
 fn byte_at(s: &[u8], at: Position) -> u8
     requires { ⌜ at .0 < length (now s) ⌝ }
     ensures { λ r. ⌜ r ≡ getD (now (s .entry)) (at .0) 0 ⌝ }

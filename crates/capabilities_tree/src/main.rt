@@ -12,7 +12,7 @@ fn show_string(string: &[u8]) {
     if show_tree::write(STDOUT_FILENO, b"", string) {
         return;
     }
-    show_tree::explain(STDERR_FILENO, b"capabilities_tree: ", string);
+    show_refusal::explain(STDERR_FILENO, b"capabilities_tree: ", string);
 }
 
 fn main() {

@@ -3,13 +3,12 @@ use crate::site;
 use crate::site::Site;
 use day_host::actions::Action;
 use day_host::declared::FULL;
-use day_host::reading;
-use day_host::reading::Reading;
 use day_host::texts;
 use day_host::trial;
 use day_host::trial::Left;
 use day_host::trial::Profile;
 use day_host::writes;
+use day_reading::Reading;
 use day_report::messages::BRIGHTNESS;
 use day_report::messages::DEGAUSS;
 use day_report::messages::INPUT;
@@ -61,19 +60,19 @@ pub(crate) fn adjust(mut s: Site) -> Site {
 fn closed(mut s: Site, r: Reading, number: u64, wanted: &[u8]) -> Site {
     let line = r.line;
     s.line = line;
-    site::also(s, reading::judged(r, number, wanted))
+    site::also(s, day_reading::judged(r, number, wanted))
 }
 
 // Returns the site after a text was read, which should come to these bytes.
 fn read(kind: TextKind, mut s: Site, number: u64, wanted: &[u8]) -> Site {
     let line = s.line;
-    let mut r = reading::begin(kind, number, line);
-    let mut left = reading::BUDGET;
+    let mut r = day_reading::begin(kind, number, line);
+    let mut left = day_reading::BUDGET;
     while left > 0 {
-        s = site::deliver(s, reading::asked(r));
+        s = site::deliver(s, day_reading::asked(r));
         let reply = s.reply;
-        r = reading::hear(r, reply);
-        if reading::goes_on(r) {
+        r = day_reading::hear(r, reply);
+        if day_reading::goes_on(r) {
             left -= 1;
         } else {
             left = 0;

@@ -1,11 +1,10 @@
-// The requests that the hosts send.
+// The requests that the hosts send, but for those of a transfer.
 use day_line::Frame;
 use message_output::Built;
 use message_rules::TABLE_CODE;
 use message_rules::TO_DISPLAY;
 use message_rules::TextOffset;
 use message_rules::limits::OUTPUT_ROOM;
-use transfer_rules::Transfer;
 
 // Returns the message that was built in front of these bytes, or none.
 fn framed(bytes: [u8; OUTPUT_ROOM], built: Built) -> Frame {
@@ -51,14 +50,4 @@ pub(crate) fn write(at: u16, data: &[u8]) -> Frame {
         &mut m,
     );
     framed(m, built)
-}
-
-// Returns the request for the fragment that a transfer asks for next.
-pub(crate) fn fragment(t: Transfer) -> Frame {
-    let mut m = [0u8; OUTPUT_ROOM];
-    let asked = transfer::request(t, &mut m);
-    Frame {
-        bytes: m,
-        len: asked.len,
-    }
 }

@@ -1,15 +1,15 @@
 // The display for Rust and C: its state is a struct of numbers and arrays by value, and all else goes by slices.
 // Thin over the proved functions, refusing like them.
-pub mod asked;
-
 ghost use mathlib.Core.Path.{_≡_};
 ghost use lib.ListN.{length};
 ghost use Rattle.codes.specs.Codes.{countOf, nextOf};
 ghost use Rattle.display_rules.specs.State.{start, declare};
 ghost use Rattle.display_rules.specs.Step.{step, leftBy};
 ghost use Rattle.profile_rules.specs.Profile.{writeProfile, loadProfile};
+ghost use Rattle.display_asked.specs.Asked.{askedOf};
 ghost use Rattle.ddcci_display.specs.Numbers.{codeNumber, loadedNumbers};
 use codes::Next;
+use display_asked::DisplayAsked;
 use display_pending::Pending;
 use display_pending::changes;
 use display_rules::Changed;
@@ -108,6 +108,15 @@ pub extern "C" fn ddcci_display_step(
             return changes::answered(d, answer, length);
         }
     }
+}
+
+// Returns what a message asked for, given the answer of its step.
+// All is 0 where the answer is not 0, the message is too short for its command, or the command is not in the table.
+#[no_mangle]
+pub extern "C" fn ddcci_display_asked(answer: u8, message: &[u8]) -> DisplayAsked
+    ensures { λ r. ⌜ r ≡ askedOf answer (now (message .entry)) ⌝ }
+{
+    display_asked::asked_for(answer, message)
 }
 
 // Writes the profile of the display's saved values into the output.

@@ -1,4 +1,4 @@
-// The tree of a capabilities string, one word a line; and of a refused one, what is wrong with it.
+// The tree of a capabilities string, one word a line.
 use buffers::behind;
 use buffers::front;
 use buffers::wide_word;
@@ -6,7 +6,6 @@ use capabilities_rules::Reading;
 use capabilities_rules::limits::DEEPEST;
 use capabilities_rules::limits::MOST_NODES;
 use message_rules::Position;
-use message_rules::answer;
 use show::text;
 ghost use mathlib.Core.Path.{_≡_};
 ghost use lib.Dec.{eqb};
@@ -131,53 +130,6 @@ pub fn write(to: i32, margin: &[u8], string: &[u8]) -> bool
         Reading::Refused(number, place) => {
             refusal(to, margin, number, place);
             false
-        }
-    }
-}
-
-// Writes which byte is refused. A line end behind the string is the one that `echo` leaves.
-fn refused_byte(to: i32, place: Position, b: u8) {
-    show::counted(to, b": byte ", place.0 as u64, b" is ");
-    show::hex(to, b);
-    if b == b'\n' {
-        text(
-            to,
-            b", a line end: remove it, or write the string with printf",
-        );
-    }
-}
-
-// Writes where a string is refused, and what stands there.
-fn spot(to: i32, string: &[u8], number: u8, place: Position) {
-    let at = place.0;
-    if number == answer::TEXT_TOO_LONG {
-        text(to, b": a capabilities string has at most 4096 bytes");
-    } else if at < string.len() {
-        refused_byte(to, place, string[at]);
-    } else if at == 0 {
-        text(to, b": it is empty");
-    } else {
-        show::counted(
-            to,
-            b": it ends at byte ",
-            at as u64,
-            b" with no closing bracket",
-        );
-    }
-}
-
-// Writes for people why a string is refused, as one line that begins with `who`.
-// Of a string that is accepted nothing is written.
-pub fn explain(to: i32, who: &[u8], string: &[u8]) {
-    let n = read(string);
-    let reading = n.reading;
-    match reading {
-        Reading::Accepted(_) => {}
-        Reading::Refused(number, place) => {
-            text(to, who);
-            show::answer::meaning(to, number);
-            spot(to, string, number, place);
-            text(to, b"\n");
         }
     }
 }

@@ -15,7 +15,7 @@ fn answers() {
 // Writes a string's tree behind a margin, why it is refused where it is, and whether it was accepted.
 fn string(s: &[u8]) {
     let accepted = show_tree::write(TO, b"  ", s);
-    show_tree::explain(TO, b"  why: ", s);
+    show_refusal::explain(TO, b"  why: ", s);
     if accepted {
         show::text(TO, b"accepted\n");
     } else {

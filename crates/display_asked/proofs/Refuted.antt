@@ -2,7 +2,7 @@
 -- Assumes nothing.
 use Prim.Native.Nat.{ℕ, _+_, _*_, _<_}
 use mathlib.Core.Path.{_≡_, refl, sym, ap, _∙_}
-use mathlib.Core.List.{List, [], _∷_}
+use mathlib.Core.List.{List, [], append-nil}
 use native.Mathlib.Omega.{arith}
 use lib.ListN.{getD}
 use Rattle.checksum.specs.Bytes as bytes
@@ -10,9 +10,8 @@ use Rattle.message_rules.specs.Body as body
 use Rattle.message_rules.specs.Frame.{frame, plain}
 use Rattle.message_rules.specs.Message.{setFeature, requests, encode, Valid, toDisplay}
 use Rattle.message_rules.proofs.RoundTrip.{requests-round}
-use Rattle.display_rules.proofs.Reading.{read-back}
-use Rattle.ddcci_display.specs.Asked.{asked, askedOf, TellsAsked}
-use Rattle.ddcci_display.specs.declared.asked.DisplayAsked.{DisplayAsked}
+use Rattle.display_asked.specs.Asked.{asked, askedOf, TellsAsked}
+use Rattle.display_asked.specs.declared.DisplayAsked.{DisplayAsked}
 
 -- the value of a Set with its low byte first
 lowFirst : ℕ → List ℕ → DisplayAsked
@@ -34,6 +33,6 @@ low-first-refuted : TellsAsked lowFirst → ⊥
 unfolding frame plain lowFirst
 low-first-refuted h =
     let s : List ℕ = encode requests toDisplay (setFeature 0x10 1) in
-    let told = h .accepted s (setFeature 0x10 1) (requests-round .bytes toDisplay (setFeature 0x10 1) (omega arith) (omega arith) set-valid) (read-back (setFeature 0x10 1) set-valid) in
+    let told = h .accepted s (setFeature 0x10 1) (requests-round .bytes toDisplay (setFeature 0x10 1) (omega arith) (omega arith) set-valid) (rw append-nil at (requests-round .there toDisplay (setFeature 0x10 1) [] refl set-valid)) in
     let e : _≡_ {A = ℕ} 256 1 = ap (λ (a : DisplayAsked). a .value) told in
     omega arith

@@ -1,4 +1,4 @@
--- `ddcci_display::asked::by_command` meets its contract: each listed number has its row, every other has none.
+-- `display_asked::by_command` meets its contract: each listed number has its row, every other has none.
 -- Assumes nothing.
 use mathlib.Core.Path.{sym, ap, _∙_}
 use mathlib.Core.Logic.{⊎-elim}
@@ -7,10 +7,10 @@ use Rattle.message_rules.specs.Row.{Row}
 use Rattle.message_rules.specs.Layout.{rowOf}
 use Rattle.message_rules.specs.declared.Direction.the-variants as way
 use Rattle.message_rules.proofs.Rows.{request-unknown}
-use Rattle.ddcci_display.specs.Asked.{rowAsked}
+use Rattle.display_asked.specs.Asked.{rowAsked}
 use borrow.Author.Needs.{needs}
-use Rattle.ddcci_display.proofs.asked.by_command.Statement.{statement}
-use Rattle.ddcci_display.proofs.asked.by_command.Tie as tie
+use Rattle.display_asked.proofs.by_command.Statement.{statement}
+use Rattle.display_asked.proofs.by_command.Tie as tie
 
 code-asked-requires : tie.Need-code-asked-requires
 code-asked-requires c κs = search needs

@@ -1,11 +1,11 @@
--- `ddcci_display::asked::set_asked` meets its contract: by the length of the message.
+-- `display_asked::set_asked` meets its contract: by the length of the message.
 -- Assumes nothing.
 use native.Mathlib.Omega.{arith}
 use lib.ListN.{length}
 use borrow.Author.Tests.{le-leb, lt-leb}
 use borrow.Author.Needs.{needs}
-use Rattle.ddcci_display.proofs.asked.set_asked.Statement.{statement}
-use Rattle.ddcci_display.proofs.asked.set_asked.Tie as tie
+use Rattle.display_asked.proofs.set_asked.Statement.{statement}
+use Rattle.display_asked.proofs.set_asked.Tie as tie
 
 shared-slice-read-wide16 : tie.Need-shared-slice-read-wide16
 shared-slice-read-wide16 c = search needs

@@ -1,11 +1,11 @@
--- `ddcci_display::asked::ddcci_display_asked` meets its contract: the answer, then the length, then the command number.
+-- `display_asked::asked_for` meets its contract: the answer, then the length, then the command number.
 -- Assumes nothing.
 use native.Mathlib.Omega.{arith}
-use Rattle.ddcci_display.proofs.Tells.{refused, short, known}
+use Rattle.display_asked.proofs.Tells.{refused, short, known}
 use mathlib.Core.Path.{sym, _∙_}
 use borrow.Author.Needs.{needs}
-use Rattle.ddcci_display.proofs.asked.ddcci_display_asked.Statement.{statement}
-use Rattle.ddcci_display.proofs.asked.ddcci_display_asked.Tie as tie
+use Rattle.display_asked.proofs.asked_for.Statement.{statement}
+use Rattle.display_asked.proofs.asked_for.Tie as tie
 
 asked-of-requires : tie.Need-asked-of-requires
 asked-of-requires c κs = search needs
@@ -28,8 +28,8 @@ by-command-requires c κs = search needs
 returns-3 : tie.Need-returns-3
 returns-3 c = let a = c .before .before .before .before .before .args in c .by-command .ensures ∙ sym (known (a .answer) (a .message .now) (c .before .before .before .if1 .left) (omega (arith, c .before .before .if2 .left)))
 
-pub ddcci-display-asked-spec : {M : Type 1} → statement M
-ddcci-display-asked-spec =
+pub asked-for-spec : {M : Type 1} → statement M
+asked-for-spec =
     tie.close
     (tie.spec
     asked-of-requires

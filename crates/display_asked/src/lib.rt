@@ -7,7 +7,7 @@ ghost use lib.ListN.{length, getD};
 ghost use Rattle.message_rules.specs.Body.{word};
 ghost use Rattle.message_rules.specs.Layout.{rowOf};
 ghost use Rattle.message_rules.specs.declared.Direction.the-variants.{Request};
-ghost use Rattle.ddcci_display.specs.Asked.{asked, nothingAsked, rowAsked, askedOf};
+ghost use Rattle.display_asked.specs.Asked.{asked, nothingAsked, rowAsked, askedOf};
 use buffers::wide16;
 use message_rules::answer;
 
@@ -89,8 +89,7 @@ fn by_command(command: u8, message: &[u8]) -> DisplayAsked
 
 // Returns what a message asked for, given the answer of its step.
 // All is 0 where the answer is not 0, the message is too short for its command, or the command is not in the table.
-#[no_mangle]
-pub extern "C" fn ddcci_display_asked(answer: u8, message: &[u8]) -> DisplayAsked
+pub fn asked_for(answer: u8, message: &[u8]) -> DisplayAsked
     ensures { λ r. ⌜ r ≡ askedOf answer (now (message .entry)) ⌝ }
 {
     if answer != answer::DONE {

@@ -15,7 +15,7 @@ use Rattle.message_rules.specs.declared.Direction.the-variants as way
 use Rattle.message_rules.specs.Frame.{frame, plain}
 use Rattle.message_rules.specs.Message.{Request, getFeature, setFeature, timing, save, text, tableRead, tableWrite, requests, encode, decode, toDisplay}
 use Rattle.message_rules.proofs.RoundTrip.{requests-round}
-use Rattle.ddcci_display.specs.Asked.{asked, rowAsked, askedOf, requestAsked, TellsAsked}
+use Rattle.display_asked.specs.Asked.{asked, rowAsked, askedOf, requestAsked, TellsAsked}
 
 -- of what is built
 built-asked : (m : Request) → askedOf 0 (encode requests toDisplay m) ≡ requestAsked m

@@ -16,7 +16,7 @@ use Rattle.message_rules.specs.Message.{Request, getFeature, setFeature, timing
 use Rattle.message_rules.specs.declared.Direction.the-variants as way
 use Rattle.message_rules.specs.declared.RequestKind.{RequestKind}
 use Rattle.message_rules.specs.declared.RequestKind.the-variants as row
-use Rattle.ddcci_display.specs.declared.asked.DisplayAsked.{DisplayAsked}
+use Rattle.display_asked.specs.declared.DisplayAsked.{DisplayAsked}
 
 abbrev pub asked : (command code value : ℕ) → DisplayAsked
 asked k c v = record { command = k; code = c; value = v }

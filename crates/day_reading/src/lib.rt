@@ -1,6 +1,5 @@
 // 06:00 and 12:00: a host reads a text of a display over the line, fragment by fragment.
 // It asks again where the line spoils an exchange.
-use crate::requests;
 use buffers::front;
 use day_line::Fate;
 use day_line::Frame;
@@ -12,8 +11,19 @@ use day_report::exchanges;
 use message_rules::TextKind;
 use message_rules::answer;
 use message_rules::limits::LONGEST_TEXT;
+use message_rules::limits::OUTPUT_ROOM;
 use transfer_rules::State;
 use transfer_rules::Transfer;
+
+// Returns the request for the fragment that a transfer asks for next.
+fn fragment(t: Transfer) -> Frame {
+    let mut m = [0u8; OUTPUT_ROOM];
+    let asked = transfer::request(t, &mut m);
+    Frame {
+        bytes: m,
+        len: asked.len,
+    }
+}
 
 // How many exchanges a transfer may take.
 pub const BUDGET: usize = 1500;
@@ -67,7 +77,7 @@ pub fn begin(kind: TextKind, number: u64, line: Line) -> Reading {
 // Returns what arrives of the next request.
 pub fn asked(r: Reading) -> Frame {
     let t = r.transfer;
-    day_line::heard(day_line::draw(r.line.seed), requests::fragment(t))
+    day_line::heard(day_line::draw(r.line.seed), fragment(t))
 }
 
 // Returns the reading with one more exchange counted, which began at this offset.

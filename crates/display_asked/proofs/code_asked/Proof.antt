@@ -1,11 +1,11 @@
--- `ddcci_display::asked::code_asked` meets its contract: by the length of the message.
+-- `display_asked::code_asked` meets its contract: by the length of the message.
 -- Assumes nothing.
 use native.Mathlib.Omega.{arith}
 use lib.ListN.{length}
 use borrow.Author.Tests.{le-leb, lt-leb}
 use borrow.Author.Needs.{needs}
-use Rattle.ddcci_display.proofs.asked.code_asked.Statement.{statement}
-use Rattle.ddcci_display.proofs.asked.code_asked.Tie as tie
+use Rattle.display_asked.proofs.code_asked.Statement.{statement}
+use Rattle.display_asked.proofs.code_asked.Tie as tie
 
 shared-slice-read-asked-of : tie.Need-shared-slice-read-asked-of
 shared-slice-read-asked-of c = search needs

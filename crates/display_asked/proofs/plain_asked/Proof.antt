@@ -1,11 +1,11 @@
--- `ddcci_display::asked::plain_asked` meets its contract: by the length of the message.
+-- `display_asked::plain_asked` meets its contract: by the length of the message.
 -- Assumes nothing.
 use native.Mathlib.Omega.{arith}
 use lib.ListN.{length}
 use borrow.Author.Tests.{le-leb, lt-leb}
 use borrow.Author.Needs.{needs}
-use Rattle.ddcci_display.proofs.asked.plain_asked.Statement.{statement}
-use Rattle.ddcci_display.proofs.asked.plain_asked.Tie as tie
+use Rattle.display_asked.proofs.plain_asked.Statement.{statement}
+use Rattle.display_asked.proofs.plain_asked.Tie as tie
 
 asked-of-requires : tie.Need-asked-of-requires
 asked-of-requires c κs = search needs

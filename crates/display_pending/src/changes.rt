@@ -32,7 +32,11 @@ pub fn unsent(len: u16) -> TextState
 pub fn stored(mut d: Display, code: u8, value: u16) -> Display
     ensures { λ r. ⌜ r ≡ withSettings d (withPresent (d .settings) code value) ⌝ }
 {
-    d.settings = settings::store(d.settings, code, value);
+    let mut settings = d.settings;
+    let present = settings.present;
+    let after = settings::store(present, code, value);
+    settings.present = after;
+    d.settings = settings;
     d
 }
 

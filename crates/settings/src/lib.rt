@@ -16,9 +16,9 @@ use settings_rules::MOMENTARY;
 use settings_rules::Settings;
 use settings_rules::Timing;
 ghost use mathlib.Core.Path.{_≡_};
-ghost use lib.ListN.{getD};
+ghost use lib.ListN.{getD, set};
 ghost use Rattle.codes.specs.Codes.{member, countOf, nextOf};
-ghost use Rattle.settings_rules.specs.Settings.{emptySettings, startingSettings, startWith, exceedsMaximum, accessRefused, declarationRefused, withDeclaration, declareCode, answerToSet, judgeSet, withPresent, saveAll, typeNumber, getCode};
+ghost use Rattle.settings_rules.specs.Settings.{emptySettings, startingSettings, startWith, exceedsMaximum, accessRefused, declarationRefused, withDeclaration, declareCode, answerToSet, judgeSet, saveAll, typeNumber, getCode};
 
 // Returns settings with the timing and no code.
 fn starting(timing: Timing) -> Settings
@@ -221,16 +221,13 @@ pub fn judge_set(s: Settings, code: u8, value: u16) -> Judgement
     }
 }
 
-// Returns the settings with another present value of a code, as a Set that is stored leaves them.
-// Only the array is taken out and changed, so that no more is copied twice.
-pub fn store(mut s: Settings, code: u8, value: u16) -> Settings
-    ensures { λ r. ⌜ r ≡ withPresent s code value ⌝ }
+// Returns the present values with that of one code replaced, as a Set that is stored leaves them.
+pub fn store(mut present: [u16; 256], code: u8, value: u16) -> [u16; 256]
+    ensures { λ r. ⌜ r ≡ set present code value ⌝ }
 {
     let i = code as usize;
-    let mut present = s.present;
     present[i] = value;
-    s.present = present;
-    s
+    present
 }
 
 // Returns the settings after a Save: every saved value is the present one.

@@ -60,6 +60,7 @@ pub fn front(s: &[u8], n: usize) -> &[u8]
 }
 
 // Returns the first n bytes that are to be changed, or all where there are fewer.
+// It serves programs: of a part that is handed out to be changed, a contract says only what it holds at first.
 pub fn front_mut(s: &mut [u8], n: usize) -> &mut [u8]
     ensures { λ r. ⌜ now r ≡ take n (now (s .entry)) ⌝ }
 {

@@ -1,6 +1,7 @@
 // The requests that the hosts send, but for those of a transfer.
 use day_line::Frame;
 use message_output::Built;
+use message_output::length_of;
 use message_rules::TABLE_CODE;
 use message_rules::TO_DISPLAY;
 use message_rules::TextOffset;
@@ -8,13 +9,9 @@ use message_rules::limits::OUTPUT_ROOM;
 
 // Returns the message that was built in front of these bytes, or none.
 fn framed(bytes: [u8; OUTPUT_ROOM], built: Built) -> Frame {
-    let len = match built {
-        Built::Done(n) => n,
-        Built::Refused(_) => 0,
-    };
     Frame {
         bytes: bytes,
-        len: len,
+        len: length_of(built),
     }
 }
 

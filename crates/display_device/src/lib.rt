@@ -9,8 +9,8 @@ ghost use Rattle.display_pending.specs.Send.{Sent};
 ghost use Rattle.display_pending.specs.Pending.{pendingSet};
 ghost use Rattle.display_device.specs.Timing.{SendsTiming};
 use display_pending::Pending;
-use display_pending::send;
 use message_output::Built;
+use message_output::length_of;
 use message_rules::Address;
 use message_rules::answer;
 use settings_rules::Settings;
@@ -30,7 +30,7 @@ pub fn get(a: Address, s: Settings, code: u8, out: &mut [u8]) -> usize
         v.present,
         out,
     );
-    send::length_of(built)
+    length_of(built)
 }
 
 // Judges a Set. The value of an accepted one is still to be stored, unless the code is momentary.

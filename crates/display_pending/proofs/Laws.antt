@@ -10,7 +10,7 @@ use Rattle.message_rules.specs.Answer.{done}
 use Rattle.message_rules.specs.Limits.{outputRoom}
 use Rattle.message_rules.specs.Message.{setFeature}
 use Rattle.buffers.specs.Buffers.{over}
-use Rattle.message_output.specs.Output.{Builds}
+use Rattle.message_output.specs.Output.{builtLength, Builds}
 use Rattle.message_output.specs.declared.Built.{Built}
 use Rattle.codes.specs.Codes.{member}
 use Rattle.settings_rules.specs.Settings.{withPresent, setAnswer, judgeSet, setCode}
@@ -19,7 +19,7 @@ use Rattle.display_rules.specs.State.{withSettings}
 use Rattle.display_rules.specs.Turn.{accepted, refusal, noReply, setTurn}
 use Rattle.display_rules.specs.Step.{outcome}
 use Rattle.display_rules.specs.declared.Display.{Display}
-use Rattle.display_pending.specs.Send.{builtLength, Sent}
+use Rattle.display_pending.specs.Send.{Sent}
 use Rattle.display_pending.specs.Pending.{pendingBy, pendingSet, Prepares}
 
 -- ---- what is sent

@@ -3,14 +3,7 @@ use Prim.Native.Nat.{ℕ}
 use mathlib.Core.Path.{_≡_}
 use mathlib.Core.Bool.{Bool}
 use mathlib.Core.List.{List}
-use Rattle.message_output.specs.Output.{builtAnswer, builtOutput}
-use Rattle.message_output.specs.declared.Built.{Built}
-use Rattle.message_output.specs.declared.Built.the-variants.{Done, Refused}
-
--- "Where no reply is due its length is 0"
-abbrev pub builtLength : Built → ℕ
-builtLength (Done n) = n
-builtLength (Refused k) = 0
+use Rattle.message_output.specs.Output.{builtLength, builtAnswer, builtOutput}
 
 -- the reply s was built where its fields are allowed and the output has its room: n is its length there, or 0
 pub record Sent (allowed : Bool) (s before after : List ℕ) (n : ℕ) : Type 0 where

@@ -9,13 +9,12 @@ use Rattle.message_rules.specs.Answer.{done, codeNotAllowed}
 use Rattle.message_rules.specs.Message.{tableCode, null, toHost}
 use Rattle.message_rules.specs.declared.TextKind.{TextKind}
 use Rattle.message_rules.specs.declared.TextKind.the-variants.{Table}
-use Rattle.message_output.specs.Output.{builtAnswer, builtOutput}
+use Rattle.message_output.specs.Output.{builtLength, builtAnswer, builtOutput}
 use Rattle.display_rules.specs.Turn.{bytesOf}
 use Rattle.display_rules.specs.Fragments.{foundBytes, fragmentReply}
 use Rattle.display_rules.specs.Table.{lengthAfter, written}
 use Rattle.display_rules.specs.declared.FragmentCursor.{FragmentCursor}
 use Rattle.display_rules.specs.declared.Found.the-variants.{Fragment}
-use Rattle.display_pending.specs.Send.{builtLength}
 use Rattle.display_pending.specs.declared.Pending.{Pending}
 use Rattle.display_pending.specs.declared.Pending.the-variants.{Moved, Written, Refused}
 use Rattle.display_texts.specs.Writes.{answerIn}

@@ -16,6 +16,7 @@ use display_pending::send;
 use display_rules::Found;
 use display_rules::FragmentCursor;
 use display_rules::TextState;
+use message_output::length_of;
 use message_rules::Position;
 use message_rules::TABLE_CODE;
 use message_rules::TO_HOST;
@@ -32,15 +33,10 @@ fn fragment(kind: TextKind, c: FragmentCursor, bytes: &[u8], out: &mut [u8]) -> 
     let offset = c.offset;
     match kind {
         TextKind::Capabilities => {
-            send::length_of(message_reply_builder::build_text_fragment(TO_HOST, offset, bytes, out))
+            length_of(message_reply_builder::build_text_fragment(TO_HOST, offset, bytes, out))
         }
         TextKind::Table => {
-            send::length_of(message_reply_builder::build_table_fragment(
-                TO_HOST,
-                offset,
-                bytes,
-                out,
-            ))
+            length_of(message_reply_builder::build_table_fragment(TO_HOST, offset, bytes, out))
         }
     }
 }

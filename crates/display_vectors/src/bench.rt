@@ -6,7 +6,7 @@ use buffers::octet;
 use buffers::part;
 use ddcci_display::ddcci_display_step;
 use display_rules::Display;
-use message_output::Built;
+use message_output::length_of;
 use message_rules::TABLE_CODE;
 use message_rules::TO_DISPLAY;
 use message_rules::TextOffset;
@@ -124,14 +124,6 @@ pub(crate) fn step(mut b: Bench, lent: usize, table: usize, room: usize, message
 pub(crate) fn obey(b: Bench, message: &[u8]) -> Bench {
     let lent = b.text;
     step(b, lent, TABLE_BYTES, OUT_BYTES, message)
-}
-
-// Returns the length of a message, or 0 where it was not built.
-fn length_of(built: Built) -> usize {
-    match built {
-        Built::Done(n) => n,
-        Built::Refused(answer) => 0,
-    }
 }
 
 // Returns the bench after write k of the table of 1,024 bytes, in writes of 31: its bytes are k.

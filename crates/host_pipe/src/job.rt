@@ -4,7 +4,7 @@ use crate::pipe;
 use crate::pipe::Host;
 use buffers::behind;
 use buffers::front;
-use message_output::Built;
+use message_output::length_of;
 use message_reply_reader::ReplyRead;
 use message_reply_reader::read_display_reply;
 use message_rules::TABLE_CODE;
@@ -30,14 +30,6 @@ pub(crate) struct Got {
     pub(crate) came: bool,
     // The value, or 0.
     pub(crate) present: u16,
-}
-
-// Returns the length of a message, or 0 where it was not built.
-fn length_of(built: Built) -> usize {
-    match built {
-        Built::Done(n) => n,
-        Built::Refused(_) => 0,
-    }
 }
 
 // Sends a start, then declares brightness (80 of 100) and input (17, not continuous).

@@ -29,6 +29,11 @@ abbrev pub numberOf : Built → ℕ
 numberOf (Done n) = 0
 numberOf (Refused k) = k
 
+-- the length of what was built: "Where no reply is due its length is 0"
+abbrev pub builtLength : Built → ℕ
+builtLength (Done n) = n
+builtLength (Refused k) = 0
+
 -- 1: "lent output under 38 bytes"; then 7: "builder given such a field"; else 0: "done"
 abbrev pub builtNumber : Bool → ℕ → ℕ
 builtNumber allowed room = unless (leb 38 room) 1 (unless allowed 7 0)

@@ -5,7 +5,7 @@ ghost use mathlib.Core.List.{_++_};
 ghost use Prim.Native.Nat.{_+_, _/_, _%_, _<_};
 ghost use lib.ListN.{length, set};
 ghost use Rattle.message_rules.specs.Frame.{closed};
-ghost use Rattle.message_output.specs.Output.{BuildsShort, refusal};
+ghost use Rattle.message_output.specs.Output.{builtLength, BuildsShort, refusal};
 use message_rules::answer;
 use message_rules::limits;
 
@@ -15,6 +15,16 @@ pub enum Built {
     Done(usize),
     // The answer number of a refusal; the output stays as it was.
     Refused(u8),
+}
+
+// Returns the length of what was built, 0 where nothing was.
+pub fn length_of(built: Built) -> usize
+    ensures { λ r. ⌜ r ≡ builtLength built ⌝ }
+{
+    match built {
+        Built::Done(n) => n,
+        Built::Refused(answer) => 0,
+    }
 }
 
 // Returns the high byte of a 16-bit field, which comes first in a message.

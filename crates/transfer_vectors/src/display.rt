@@ -2,7 +2,7 @@
 use crate::line;
 use crate::line::Frame;
 use crate::line::ROOM;
-use message_output::Built;
+use message_output::length_of;
 use message_request_reader::RequestRead;
 use message_request_reader::read_request;
 use message_rules::TO_DISPLAY;
@@ -65,14 +65,6 @@ pub(crate) fn asked(request: Frame) -> usize {
         RequestRead::TableRead { offset, .. } => offset.0 as usize,
         RequestRead::TableWrite { .. } => 0,
         RequestRead::Refused(_) => 0,
-    }
-}
-
-// Returns the length of a message, or 0 where it was not built.
-fn length_of(built: Built) -> usize {
-    match built {
-        Built::Done(n) => n,
-        Built::Refused(_) => 0,
     }
 }
 

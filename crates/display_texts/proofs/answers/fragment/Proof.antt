@@ -3,9 +3,9 @@ use mathlib.Core.Path.{_≡_, refl, subst}
 use mathlib.Core.Bool.{Bool, true, false, _&&_}
 use mathlib.Core.List.{List}
 use Prim.Native.Nat.{ℕ}
-use Rattle.message_output.specs.Output.{Builds}
+use Rattle.message_output.specs.Output.{builtLength, Builds}
 use Rattle.message_output.specs.declared.Built.{Built}
-use Rattle.display_pending.specs.Send.{builtLength, Sent}
+use Rattle.display_pending.specs.Send.{Sent}
 use Rattle.display_pending.proofs.Laws.{sent-of}
 use borrow.Author.Needs.{needs}
 use Rattle.display_texts.proofs.answers.fragment.Statement.{statement}

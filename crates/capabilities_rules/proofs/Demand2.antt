@@ -1,4 +1,4 @@
--- What `capabilities::read` promises meets demand 2.
+-- What `capabilities_reader::read` promises meets demand 2.
 -- Assumes nothing.
 use Prim.Native.Nat.{ℕ, zero, suc}
 use mathlib.Core.Path.{_≡_, refl, sym, ap, _∙_}

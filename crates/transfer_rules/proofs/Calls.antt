@@ -14,6 +14,7 @@ use Rattle.message_rules.specs.declared.TextKind.{TextKind}
 use Rattle.message_rules.specs.declared.TextKind.the-variants.{Capabilities, Table}
 use Rattle.transfer_rules.specs.declared.State.the-variants.{Done, Overflowed}
 use Rattle.transfer_rules.specs.declared.Transfer.{Transfer}
+use Rattle.transfer_rules.specs.Limits.{mostBudget}
 use Rattle.transfer_rules.specs.Fragment.{fragmentFor, readReply, fragmentIn, fragmentOf}
 use Rattle.transfer_rules.specs.Transfer.{room, judge, receive}
 use Rattle.transfer_rules.specs.Exchange.{rules}
@@ -56,8 +57,8 @@ module _ (t : Transfer) (buffer came : List ℕ) (r : Ready t buffer) where
 pub calls-follow : CallsFollow rules
 calls-follow =
     record {
-      begins = λ k size budget h. rw (le-leb budget 65535 h);
-      refusesBegin = λ k size budget h. rw (lt-leb budget 65535 h);
+      begins = λ k size budget h. rw (le-leb budget mostBudget h);
+      refusesBegin = λ k size budget h. rw (lt-leb budget mostBudget h);
       asks = λ t output o h. rw (o, le-leb outputRoom (length output) h);
       refusesOutput = λ t output o h. rw (o, lt-leb outputRoom (length output) h);
       refusesAsking = λ t output o. rw o;

@@ -2,12 +2,14 @@
 use mathlib.Core.Path.{_≡_}
 use lib.ListN.{length}
 use native.Mathlib.Omega.{arith}
+use Rattle.message_rules.specs.Limits.{outputRoom}
+use Rattle.display_rules.specs.Limits.{tableRoom}
 use borrow.Author.Needs.{needs}
 use Rattle.display_pipe.proofs.main.Statement.{statement}
 use Rattle.display_pipe.proofs.main.Tie as tie
 
 abbrev Inv-loop : tie.InvT-loop
-Inv-loop d₀ table₀ text₀ body₀ out₀ left₀ d table text body out left = (length table ≡ 1024) × (length text ≡ 65535) × (length body ≡ 65535) × (length out ≡ 38)
+Inv-loop d₀ table₀ text₀ body₀ out₀ left₀ d table text body out left = (length table ≡ tableRoom) × (length text ≡ 65535) × (length body ≡ 65535) × (length out ≡ outputRoom)
 
 abbrev μ-loop : tie.MeasureT-loop
 μ-loop d₀ table₀ text₀ body₀ out₀ left₀ d table text body out left = left

@@ -1,5 +1,5 @@
 /* What a C program does with Paneknoll: build a request, read a reply, read a capabilities string, run a
- * transfer.
+ * transfer, check a call list.
  *
  *     cc -Iinclude c/example.c target/staticlib/libddcci.a -o example && ./example
  */
@@ -82,11 +82,42 @@ static void transfer(void) {
     printf("in %u exchanges\n", t.count);
 }
 
+/* The tokens of a call list in list order, and which of its entries calls household 2031. */
+static void call_list(const uint8_t *list, size_t length) {
+    ddcci_call_list checked = ddcci_check_call_list(list, length);
+    if (checked.answer != DDCCI_ANSWER_DONE) { /* call nobody by it */
+        printf("call list: refused %u at %zu, %s\n", checked.answer, checked.position,
+               ddcci_answer_text(checked.answer));
+        return;
+    }
+    printf("call list: tokens");
+    for (size_t i = 0; i < checked.entries; i++) {
+        printf(" %lu", (unsigned long)ddcci_call_list_entry(list, length, i).token);
+    }
+    ddcci_household found = ddcci_find_household(list, length, 2031);
+    if (found.there) {
+        printf("; household 2031 is in entry %zu\n", found.number);
+    } else {
+        printf("; household 2031 is not called\n");
+    }
+}
+
+/* Token 102 for household 2000 and token 101 for household 2031; the first alone; then household 2000 twice. */
+static void call_lists(void) {
+    uint8_t list[] = {0x0A, 0, 0x20, 0, 102, 0, 0, 0, 0xD0, 0x07, 0, 0,
+                      0x0A, 0, 0x20, 0, 101, 0, 0, 0, 0xEF, 0x07, 0, 0};
+    call_list(list, sizeof list);
+    call_list(list, 12);
+    list[20] = 0xD0;
+    call_list(list, sizeof list);
+}
+
 int main(void) {
     messages();
     capabilities("(vcp(10 14(05 08)))");
     capabilities("()");
     capabilities("(a(b)(c))");
     transfer();
+    call_lists();
     return 0;
 }

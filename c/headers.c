@@ -1,5 +1,6 @@
 /* Both headers in one file that is C89, C17 and C++ alike: the meaning of every answer number, the version,
- * what an accepted message asked for, and that data in its own output are not what a builder promises for.
+ * what an accepted message asked for, that a message with a byte behind it is refused, and call lists of the
+ * greatest length and around it.
  *
  *     cc -Iinclude c/headers.c target/staticlib/libddcci.a target/staticlib/libddcci_display.a -o headers && ./headers
  */
@@ -67,6 +68,36 @@ static void show_cut(void) {
     printf("cut to 38: answer %u\n", ddcci_read_request(message, DDCCI_LONGEST_MESSAGE).answer);
 }
 
+/* Writes all that the check and the query answer, and the token of an accepted list's entry 84. */
+static void show_checked(const uint8_t *list, size_t length) {
+    ddcci_call_list checked = ddcci_check_call_list(list, length);
+    ddcci_household found = ddcci_find_household(list, length, 84);
+    ddcci_entry last = ddcci_call_list_entry(list, checked.entries * 12, DDCCI_MOST_ENTRIES - 1);
+    printf("%lu bytes: answer %u, ", (unsigned long)length, checked.answer);
+    printf("%lu entries, position %lu; ", (unsigned long)checked.entries, (unsigned long)checked.position);
+    printf("household 84: answer %u, ", found.answer);
+    printf("%u, %lu, %lu; ", found.there, (unsigned long)found.number, (unsigned long)found.position);
+    printf("last token %lu\n", (unsigned long)last.token);
+}
+
+/* The longest call list, with token 100 + i for household i; bytes behind it; and its token 184 twice. */
+static void show_call_lists(void) {
+    static uint8_t list[DDCCI_LONGEST_CALL_LIST + 1];
+    size_t i;
+    for (i = 0; i < DDCCI_MOST_ENTRIES; i++) {
+        list[12 * i] = 10;
+        list[12 * i + 2] = 32;
+        list[12 * i + 4] = (uint8_t)(100 + i);
+        list[12 * i + 8] = (uint8_t)i;
+    }
+    show_checked(list, 12 * DDCCI_MOST_ENTRIES);
+    show_checked(list, DDCCI_LONGEST_CALL_LIST);
+    show_checked(list, sizeof list);
+    show_checked(list, 0);
+    list[4] = 184;
+    show_checked(list, 12 * DDCCI_MOST_ENTRIES);
+}
+
 int main(void) {
     static const uint8_t null_message[] = DDCCI_DISPLAY_NULL_MESSAGE;
     int answer;
@@ -74,6 +105,7 @@ int main(void) {
     for (answer = 0; answer < 256; answer++) printf("%d %s\n", answer, ddcci_answer_text(answer));
     show_messages();
     show_cut();
+    show_call_lists();
     printf("null message: answer %u\n", ddcci_read_reply(null_message, sizeof null_message).answer);
     return 0;
 }

@@ -2,10 +2,10 @@
  *
  * Link target/staticlib/libddcci.a, which is built for x86-64 Linux; it needs nothing else.
  *
- * Every function is proved, for all inputs, to be safe, to end and to answer as document 01 says. None
- * allocates. Each answer is a number of `enum ddcci_answer`, and ddcci_answer_text says what it means
- * (ddcci_common.h). A refusal writes nothing. The slices of one call must not overlap: a Table write that
- * was built from data standing in its own output had a wrong checksum. */
+ * Every function is proved, for all inputs, to be safe, to end and to answer as the papers say: document
+ * 01, and document 02 for call lists. None allocates. Each answer is a number of `enum ddcci_answer`, and
+ * ddcci_answer_text says what it means (ddcci_common.h). A refusal writes nothing. The slices of one call
+ * must not overlap: a Table write that was built from data standing in its own output had a wrong checksum. */
 #ifndef PANEKNOLL_DDCCI_H
 #define PANEKNOLL_DDCCI_H
 
@@ -28,6 +28,10 @@ extern "C" {
 /* The most nodes of a capabilities string, and the parent of a node in the outer group. */
 #define DDCCI_MOST_NODES 512
 #define DDCCI_NO_PARENT 65535
+
+/* The most bytes and the most entries of a call list: 85 records are 1,020 bytes. */
+#define DDCCI_LONGEST_CALL_LIST 1024
+#define DDCCI_MOST_ENTRIES 85
 
 /* What a builder answers: an answer number, and the length of the message or 0. */
 typedef struct {
@@ -81,11 +85,37 @@ typedef struct {
     uint8_t answer;
 } ddcci_transfer;
 
+/* What the check of a call list answers: the number of entries and the end of the list, or no entries and
+ * the position where the refused record starts. */
+typedef struct {
+    uint8_t answer;
+    size_t entries;
+    size_t position;
+} ddcci_call_list;
+
+/* What the query of a household answers: 1 and its entry's number, counted from 0; or 0 and 0 where the
+ * household is not there. The position is 0, or of a refused list where the refused record starts. */
+typedef struct {
+    uint8_t answer;
+    uint8_t there;
+    size_t number;
+    size_t position;
+} ddcci_household;
+
+/* An entry of a call list: a token, and the household that it calls. */
+typedef struct {
+    uint32_t token;
+    uint32_t household;
+} ddcci_entry;
+
 DDCCI_ASSERT_SIZE(ddcci_built, 16);
 DDCCI_ASSERT_SIZE(ddcci_request_read, 24);
 DDCCI_ASSERT_SIZE(ddcci_reply_read, 32);
 DDCCI_ASSERT_SIZE(ddcci_reading, 24);
 DDCCI_ASSERT_SIZE(ddcci_transfer, 16);
+DDCCI_ASSERT_SIZE(ddcci_call_list, 24);
+DDCCI_ASSERT_SIZE(ddcci_household, 24);
+DDCCI_ASSERT_SIZE(ddcci_entry, 8);
 
 /* The state and the text of a transfer. A refused begin of an unknown text has text 2, which names none. */
 #define DDCCI_STATE(transfer) ((transfer).phase % 4)
@@ -148,6 +178,21 @@ ddcci_built ddcci_request(ddcci_transfer transfer, uint8_t *out, size_t out_leng
  * the buffer. The text is whole only where the state is DDCCI_DONE afterwards. */
 ddcci_transfer ddcci_receive(ddcci_transfer transfer, uint8_t *buffer, size_t buffer_length,
                              const uint8_t *reply, size_t reply_length);
+
+/* Checks a call list before anyone is called by it. A record has 12 bytes: its length 10 and its kind 32 in
+ * 2 bytes each, the token and the household in 4 bytes each, the lowest byte first. Answers 0 with the
+ * number of entries, which for the empty list is 0; 11 at 0 for more than DDCCI_LONGEST_CALL_LIST bytes;
+ * else the position of the first record that is broken (17), repeats the token of an earlier one (19) or
+ * repeats its household (20), in that order for one record. */
+ddcci_call_list ddcci_check_call_list(const uint8_t *list, size_t list_length);
+
+/* Finds the entry that calls a household: answers 0 with there 1 and the entry's number, or with there 0;
+ * or the check's answer and position for a list that is not accepted. It checks the list each time. */
+ddcci_household ddcci_find_household(const uint8_t *list, size_t list_length, uint32_t household);
+
+/* Returns the entry with this number, counted from 0, of an accepted list; past its entries both fields
+ * are 0. Of a list that was not accepted it is what stands there: check first. */
+ddcci_entry ddcci_call_list_entry(const uint8_t *list, size_t list_length, size_t number);
 
 #ifdef __cplusplus
 }

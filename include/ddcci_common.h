@@ -10,9 +10,9 @@
 #include <stdint.h>
 
 /* The version of the headers and of the archives that they go with. */
-#define DDCCI_VERSION "0.2.0"
+#define DDCCI_VERSION "0.3.0"
 #define DDCCI_VERSION_MAJOR 0
-#define DDCCI_VERSION_MINOR 2
+#define DDCCI_VERSION_MINOR 3
 #define DDCCI_VERSION_PATCH 0
 
 /* The bytes of the longest message of either direction, and the least output of a builder. */
@@ -41,7 +41,7 @@ enum ddcci_command {
     DDCCI_COMMAND_TABLE_FRAGMENT = 0xE4
 };
 
-/* The answer numbers of document 01's table. ddcci_answer_text says what each one means. */
+/* The answer numbers of the papers' table. ddcci_answer_text says what each one means. */
 enum ddcci_answer {
     DDCCI_ANSWER_DONE = 0,
     DDCCI_ANSWER_WRONG_SIZE = 1,
@@ -60,8 +60,10 @@ enum ddcci_answer {
     DDCCI_ANSWER_NO_NODE_ROOM = 14,
     DDCCI_ANSWER_TOO_DEEP = 15,
     DDCCI_ANSWER_TRANSFER_CLOSED = 16,
-    DDCCI_ANSWER_BROKEN_PROFILE = 17,
-    DDCCI_ANSWER_NOT_DECLARABLE = 18
+    DDCCI_ANSWER_BROKEN_RECORD = 17,
+    DDCCI_ANSWER_NOT_DECLARABLE = 18,
+    DDCCI_ANSWER_REPEATED_TOKEN = 19,
+    DDCCI_ANSWER_REPEATED_HOUSEHOLD = 20
 };
 
 #if defined(__cplusplus) || (defined(__STDC_VERSION__) && __STDC_VERSION__ >= 199901L)
@@ -98,7 +100,7 @@ DDCCI_INLINE const char *ddcci_answer_text(int answer) {
     case DDCCI_ANSWER_NOT_WANTED:
         return "the offset or fragment is not the one wanted";
     case DDCCI_ANSWER_TEXT_TOO_LONG:
-        return "the text is too long for its room";
+        return "the text is too long for its room (a call list has at most 1,024 bytes)";
     case DDCCI_ANSWER_NULL_MESSAGE:
         return "the display sent the null message: it is busy or does not know the command";
     case DDCCI_ANSWER_WRONG_GRAMMAR:
@@ -109,10 +111,14 @@ DDCCI_INLINE const char *ddcci_answer_text(int answer) {
         return "groups nest deeper than 8";
     case DDCCI_ANSWER_TRANSFER_CLOSED:
         return "the transfer is closed: begin another";
-    case DDCCI_ANSWER_BROKEN_PROFILE:
-        return "the profile is broken";
+    case DDCCI_ANSWER_BROKEN_RECORD:
+        return "a record of the profile or call list is broken: read it again";
     case DDCCI_ANSWER_NOT_DECLARABLE:
         return "the declaration, timing, fragment size or budget is not allowed";
+    case DDCCI_ANSWER_REPEATED_TOKEN:
+        return "a token stands twice in the call list: call nobody by it";
+    case DDCCI_ANSWER_REPEATED_HOUSEHOLD:
+        return "a household stands twice in the call list: call nobody by it";
     default:
         return "unknown answer";
     }

@@ -1,3 +1,4 @@
 pub mod Conformance
 pub mod BothEnds
 pub mod Undisturbed
+pub mod Gate

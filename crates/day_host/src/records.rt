@@ -1,9 +1,8 @@
-// What is told of a settings profile: its records, and what came of loading it.
+// What is told of a settings profile: its size and its records.
 use buffers::behind;
 use buffers::front;
 use day_report::OUT;
 use day_report::line;
-use message_rules::answer;
 use profile_rules::RECORD_SIZE;
 
 // Returns a 16-bit word, the low byte first.
@@ -38,14 +37,4 @@ pub(crate) fn records(profile: &[u8]) {
     record(front(profile, RECORD_SIZE));
     record(front(behind(profile, RECORD_SIZE), RECORD_SIZE));
     record(behind(profile, RECORD_SIZE * 2));
-}
-
-// Writes the answer to a load, with its position where it is refused.
-pub(crate) fn loaded(what: &[u8], answer: u8, place: usize) {
-    show::text(OUT, what);
-    show::answer::meaning(OUT, answer);
-    if answer != answer::DONE {
-        line(b", at byte #", &[place as u64]);
-    }
-    show::text(OUT, b"\n");
 }

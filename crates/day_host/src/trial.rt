@@ -1,5 +1,6 @@
 // 18:30: a settings profile is written, and loaded twice: damaged, which is refused, and as it was written.
 use crate::records;
+use day_report::checks;
 use message_rules::answer;
 use profile_rules::Loaded;
 use profile_rules::RECORD_SIZE;
@@ -70,14 +71,14 @@ pub fn damaged(settings: Settings, p: Profile) -> Left {
     let mut bytes = p.bytes;
     bytes[DAMAGED] = 2;
     let l = profile::load(settings, &bytes);
-    records::loaded(b"    a damaged copy is loaded: ", l.answer, l.position.0);
-    tried(l, answer::BROKEN_PROFILE, RECORD_SIZE)
+    checks::answered(b"    a damaged copy is loaded: ", l.answer, l.position.0);
+    tried(l, answer::BROKEN_RECORD, RECORD_SIZE)
 }
 
 // Returns what loading the profile left: it should be accepted.
 pub fn loaded(settings: Settings, p: Profile) -> Left {
     let bytes = p.bytes;
     let l = profile::load(settings, &bytes);
-    records::loaded(b"    the profile is loaded: ", l.answer, l.position.0);
+    checks::answered(b"    the profile is loaded: ", l.answer, l.position.0);
     tried(l, answer::DONE, PROFILE_ROOM)
 }

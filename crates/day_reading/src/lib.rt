@@ -1,5 +1,7 @@
 // 06:00 and 12:00: a host reads a text of a display over the line, fragment by fragment.
 // It asks again where the line spoils an exchange.
+mod calls;
+
 use buffers::front;
 use day_line::Fate;
 use day_line::Frame;
@@ -157,8 +159,8 @@ fn closed_well(t: Transfer, tally: Tally, same: bool) -> bool {
 
 // Returns whether the text that was read is accepted.
 // Of the first display's capabilities string the tree is written, and the reader's verdict returned.
-// The second display has the same string, and a list has no tree: these are true.
-fn tree(kind: TextKind, number: u64, text: &[u8]) -> bool {
+// The second display has the same string: that is true. A list is checked as the gates do.
+fn accepted(kind: TextKind, number: u64, text: &[u8]) -> bool {
     match kind {
         TextKind::Capabilities => {
             if number == 1 {
@@ -166,7 +168,7 @@ fn tree(kind: TextKind, number: u64, text: &[u8]) -> bool {
             }
             true
         }
-        TextKind::Table => true,
+        TextKind::Table => calls::checked(number, text),
     }
 }
 
@@ -179,7 +181,7 @@ pub fn judged(r: Reading, number: u64, wanted: &[u8]) -> bool {
     let buffer = r.buffer;
     let text = front(&buffer, t.reached.0 as usize);
     let good = closed_well(t, tally, check::same(wanted, text));
-    let accepted = tree(kind, number, text);
+    let accepted = accepted(kind, number, text);
     if good {
         return accepted;
     }

@@ -1,5 +1,6 @@
 // The library's functions for Rust and C, on numbers and slices alone.
 // They are thin over the proved functions, and refuse like them.
+pub mod calls;
 pub mod capability;
 pub mod reply;
 pub mod request;

@@ -1,4 +1,4 @@
--- Document 01, "Answer numbers": the numbers of its table, in its order.
+-- Document 01, "Answer numbers": the numbers of its table, in its order; behind them those of document 02.
 use Prim.Native.Nat.{ℕ}
 
 -- done
@@ -45,7 +45,7 @@ valueTooLarge = 9
 abbrev pub notWanted : ℕ
 notWanted = 10
 
--- text too long for its room
+-- text too long for its room; call list over 1,024 bytes (document 02, K9)
 abbrev pub textTooLong : ℕ
 textTooLong = 11
 
@@ -67,10 +67,17 @@ tooDeep = 15
 abbrev pub transferClosed : ℕ
 transferClosed = 16
 
--- profile broken
-abbrev pub brokenProfile : ℕ
-brokenProfile = 17
+-- profile broken; record of a call list broken (K9)
+abbrev pub brokenRecord : ℕ
+brokenRecord = 17
 
 -- declaration, fragment size or budget not allowed
 abbrev pub notDeclarable : ℕ
 notDeclarable = 18
+
+-- document 02, K9: a record of a call list repeats a token of an earlier one, or a household
+abbrev pub repeatedToken : ℕ
+repeatedToken = 19
+
+abbrev pub repeatedHousehold : ℕ
+repeatedHousehold = 20

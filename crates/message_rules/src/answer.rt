@@ -1,4 +1,4 @@
-// Document 01's answer numbers, as specs/Answer.antt defines them.
+// The answer numbers of documents 01 and 02, as specs/Answer.antt defines them.
 // The call is done.
 pub const DONE: u8 = 0;
 
@@ -32,7 +32,7 @@ pub const VALUE_TOO_LARGE: u8 = 9;
 // The offset or the fragment is not the one wanted.
 pub const NOT_WANTED: u8 = 10;
 
-// The text is too long for its room.
+// The text is too long for its room, or the call list is over 1,024 bytes.
 pub const TEXT_TOO_LONG: u8 = 11;
 
 // The host read the null message.
@@ -50,8 +50,14 @@ pub const TOO_DEEP: u8 = 15;
 // The transfer was closed already.
 pub const TRANSFER_CLOSED: u8 = 16;
 
-// The profile is broken.
-pub const BROKEN_PROFILE: u8 = 17;
+// The profile is broken, or a record of the call list.
+pub const BROKEN_RECORD: u8 = 17;
 
 // The declaration, the fragment size or the budget is not allowed.
 pub const NOT_DECLARABLE: u8 = 18;
+
+// A record of the call list has a token of an earlier one.
+pub const REPEATED_TOKEN: u8 = 19;
+
+// A record of the call list has a household of an earlier one.
+pub const REPEATED_HOUSEHOLD: u8 = 20;

@@ -37,8 +37,9 @@ pub const TO_HOST: Address = Address {
 #[repr(C)]
 pub struct TextOffset(pub u16);
 
-// A position counts bytes of one slice: a message, a capabilities string, a profile (the papers' place).
+// A position counts bytes of one slice: a message, a capabilities string, a profile, a call list (the papers' place).
 // No function takes it for a text offset.
+#[repr(C)]
 pub struct Position(pub usize);
 
 // The two texts of a display that are sent in fragments.

@@ -8,7 +8,7 @@ use lib.ListN.{length, getD, drop, length-drop}
 use lib.Seq.{getD-drop, drop-drop}
 use lib.Dec.{eqb}
 use borrow.Author.Tests.{eq-eqb, ne-eqb}
-use Rattle.message_rules.specs.Answer.{done, codeNotAllowed, valueTooLarge, brokenProfile}
+use Rattle.message_rules.specs.Answer.{done, codeNotAllowed, valueTooLarge, brokenRecord}
 use Rattle.codes.specs.Codes.{allCodes, member}
 use Rattle.settings_rules.specs.Settings.{exceedsMaximum}
 use Rattle.settings_rules.specs.Entries.{entryOf}
@@ -30,7 +30,7 @@ use Rattle.profile.specs.Parts.{judgedAt, storedRecords}
 
 -- the answers of `record_answer`
 module _ (s : List ℕ) (at c m : ℕ) (k : Bool) where
-  pub answer-broken : beginsWithRecord (drop at s) ≡ false → brokenProfile ≡ recordAnswer c k m (drop at s)
+  pub answer-broken : beginsWithRecord (drop at s) ≡ false → brokenRecord ≡ recordAnswer c k m (drop at s)
   unfolding recordAnswer
   answer-broken e = rw e
 
@@ -106,9 +106,9 @@ pub left-starts : (s : Settings) (ws p : List ℕ) → codesFrom (member ws) 0 �
 left-starts s ws p e = ap (λ (cs : List ℕ). judge s cs 0 p) e
 
 -- no code is left: the profile ends here, or it is too long
-judged-end : (s : Settings) (at : ℕ) (bytes : List ℕ) (t : Bool) → eqb (length bytes) 0 ≡ t → judge s [] at bytes ≡ judgedAt (cond t done brokenProfile) at
+judged-end : (s : Settings) (at : ℕ) (bytes : List ℕ) (t : Bool) → eqb (length bytes) 0 ≡ t → judge s [] at bytes ≡ judgedAt (cond t done brokenRecord) at
 unfolding judge
-judged-end s at bytes t e = ap (λ (b : Bool). judgedAt (cond b done brokenProfile) at) e
+judged-end s at bytes t e = ap (λ (b : Bool). judgedAt (cond b done brokenRecord) at) e
 
 -- a record that is accepted is whole
 pub answered-whole : (s : Settings) (p : List ℕ) (at k : ℕ) → at ≤ length p → answerTo s k (drop at p) ≡ done → at + recordSize ≤ length p
@@ -142,7 +142,7 @@ module _ (s : Settings) (ws p : List ℕ) (at from : ℕ) (left : Left s ws p at
   left-end f l =
       sym (judged-end s at (drop at p) true (eq-eqb _ _ (length-drop at p ∙ omega arith))) ∙ ap (λ (cs : List ℕ). judge s cs at (drop at p)) (sym f) ∙ left
 
-  pub left-more : codesFrom (member ws) from ≡ [] → at ≤ length p → (at ≡ length p → ⊥) → judgedAt brokenProfile at ≡ judgeProfile s p
+  pub left-more : codesFrom (member ws) from ≡ [] → at ≤ length p → (at ≡ length p → ⊥) → judgedAt brokenRecord at ≡ judgeProfile s p
   left-more f l q =
       sym (judged-end s at (drop at p) false (ne-eqb (length (drop at p)) 0 (λ z. q (omega (arith, length-drop at p))))) ∙ ap (λ (cs : List ℕ). judge s cs at (drop at p)) (sym f) ∙ left
 

@@ -7,7 +7,7 @@ use buffers::wide;
 use buffers::wide16;
 use codes::Next;
 use message_rules::Position;
-use message_rules::answer::BROKEN_PROFILE;
+use message_rules::answer::BROKEN_RECORD;
 use message_rules::answer::CODE_NOT_ALLOWED;
 use message_rules::answer::DONE;
 use message_rules::answer::VALUE_TOO_LARGE;
@@ -129,7 +129,7 @@ fn record_answer(s: &[u8], at: Position, code: u8, continuous: bool, maximum: u1
         }
         return CODE_NOT_ALLOWED;
     }
-    BROKEN_PROFILE
+    BROKEN_RECORD
 }
 
 // Returns an answer with a position.
@@ -172,7 +172,7 @@ fn judge_profile(s: Settings, profile: &[u8]) -> Judged
                 if at.0 == profile.len() {
                     return judged(DONE, at);
                 }
-                return judged(BROKEN_PROFILE, at);
+                return judged(BROKEN_RECORD, at);
             }
         }
     }

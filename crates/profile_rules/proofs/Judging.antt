@@ -7,7 +7,7 @@ use native.Mathlib.Omega.{arith}
 use lib.ListN.{length, getD, drop, length-drop}
 use lib.Dec.{eqb}
 use borrow.Author.Tests.{eq-eqb, ne-eqb, eqb-true}
-use Rattle.message_rules.specs.Answer.{done, brokenProfile}
+use Rattle.message_rules.specs.Answer.{done, brokenRecord}
 use Rattle.settings_rules.specs.Settings.{exceedsMaximum}
 use Rattle.settings_rules.specs.Entries.{entryOf}
 use Rattle.settings_rules.specs.declared.Settings.{Settings}
@@ -53,14 +53,14 @@ judge-records s values (c ∷ cs) ds at rest h =
 
 -- the next record is cut or missing
 pub judge-cut : (s : Settings) (cs : List ℕ) (at : ℕ) (bytes : List ℕ) → 0 < length cs → length bytes < recordSize
-    → judge s cs at bytes ≡ record { answer = brokenProfile; position = record { 0 = at } }
+    → judge s cs at bytes ≡ record { answer = brokenRecord; position = record { 0 = at } }
 unfolding answerTo recordAnswer
 judge-cut s [] at bytes l h = absurd (omega arith)
 judge-cut s (c ∷ cs) at bytes l h =
     judge-stops s c cs at bytes (λ e. let z : _≡_ {A = ℕ} 17 0 = sym (broken c) ∙ e in omega arith)
     ∙ ap (λ (k : ℕ). record { answer = k; position = record { 0 = at } }) (broken c)
   where
-    broken : (c : ℕ) → answerTo s c bytes ≡ brokenProfile
+    broken : (c : ℕ) → answerTo s c bytes ≡ brokenRecord
     broken c = rw (cut-is-none bytes h)
 
 -- what an accepted profile's first record has, and how the rest is judged
@@ -81,7 +81,7 @@ pub judged-length : (s : Settings) (cs : List ℕ) (at : ℕ) (bytes : List ℕ)
 unfolding judge
 judged-length s [] at bytes a = go (eqb (length bytes) 0) refl a
   where
-    go : (t : Bool) → eqb (length bytes) 0 ≡ t → cond t done brokenProfile ≡ done → length bytes ≡ 0
+    go : (t : Bool) → eqb (length bytes) 0 ≡ t → cond t done brokenRecord ≡ done → length bytes ≡ 0
     go true e h = eqb-true _ _ e
     go false e h = absurd (omega arith)
 judged-length s (c ∷ cs) at bytes a =

@@ -8,7 +8,7 @@ use lib.ListN.{length, getD, take, drop, take-append-drop, length-take, length-d
 use lib.Seq.{take-append-add, length-take-le}
 use lib.Dec.{eqb}
 use borrow.Author.Tests.{eqb-true, ne-eqb}
-use Rattle.message_rules.specs.Answer.{done, brokenProfile}
+use Rattle.message_rules.specs.Answer.{done, brokenRecord}
 use Rattle.codes.specs.Codes.{allCodes}
 use Rattle.settings_rules.specs.Settings.{exceedsMaximum}
 use Rattle.settings_rules.specs.Entries.{entryOf, Sound}
@@ -125,7 +125,7 @@ records-taken values (c ∷ cs) (suc k) r h =
 
 -- 17 at a position
 unfoldable brokenAt : ℕ → Judged
-brokenAt n = record { answer = brokenProfile; position = record { 0 = n } }
+brokenAt n = record { answer = brokenRecord; position = record { 0 = n } }
 
 pub short-profile-refused : ShortProfileRefused
 unfolding brokenAt

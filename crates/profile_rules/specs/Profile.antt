@@ -5,7 +5,7 @@ use mathlib.Core.List.{List, [], _∷_, _++_}
 use lib.ListN.{length, getD, drop}
 use lib.Dec.{leb, eqb}
 use Rattle.buffers.specs.Buffers.{over}
-use Rattle.message_rules.specs.Answer.{done, wrongSize, codeNotAllowed, valueTooLarge, brokenProfile}
+use Rattle.message_rules.specs.Answer.{done, wrongSize, codeNotAllowed, valueTooLarge, brokenRecord}
 use Rattle.codes.specs.Codes.{allCodes}
 use Rattle.settings_rules.specs.Settings.{exceedsMaximum}
 use Rattle.settings_rules.specs.Entries.{Entry, entryOf}
@@ -68,7 +68,7 @@ unfoldable pub recordAnswer : (c : ℕ) (continuous : Bool) (maximum : ℕ) → 
 recordAnswer c continuous maximum bytes =
     cond (beginsWithRecord bytes)
     (cond (eqb (codeIn bytes) c) (cond (exceedsMaximum continuous maximum (valueIn bytes)) valueTooLarge done) codeNotAllowed)
-    brokenProfile
+    brokenRecord
 
 unfoldable pub answerTo : Settings → ℕ → List ℕ → ℕ
 answerTo s c bytes = recordAnswer c (entryOf s c .continuous) (entryOf s c .maximum) bytes
@@ -77,7 +77,7 @@ answerTo s c bytes = recordAnswer c (entryOf s c .continuous) (entryOf s c .maxi
 -- end of the sheet when records are missing": where the bytes left start, since none are left when a record is missing.
 -- The next codes are cs, and the bytes left start at position `at` of the profile. After answer 0 the position is the end of the profile.
 unfoldable pub judge : Settings → (cs : List ℕ) (at : ℕ) (bytes : List ℕ) → Judged
-judge s [] at bytes = record { answer = cond (eqb (length bytes) 0) done brokenProfile; position = record { 0 = at } }
+judge s [] at bytes = record { answer = cond (eqb (length bytes) 0) done brokenRecord; position = record { 0 = at } }
 judge s (c ∷ cs) at bytes =
     cond (eqb (answerTo s c bytes) done)
     (judge s cs (at + recordSize) (drop recordSize bytes))

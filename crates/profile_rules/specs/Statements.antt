@@ -5,7 +5,7 @@ use mathlib.Core.Bool.{true, cond}
 use mathlib.Core.List.{List, [], _∷_, _++_}
 use lib.ListN.{length, take}
 use Rattle.checksum.specs.Bytes.{Bytes}
-use Rattle.message_rules.specs.Answer.{done, brokenProfile}
+use Rattle.message_rules.specs.Answer.{done, brokenRecord}
 use Rattle.codes.specs.Codes.{allCodes}
 use Rattle.settings_rules.specs.Settings.{emptySettings, startWith, declareCode, setCode, saveAll}
 use Rattle.settings_rules.specs.Entries.{Entry, entryOf, Sized, Sound}
@@ -65,12 +65,12 @@ RefusedLoadKeeps = (s : Settings) (bytes : List ℕ) → (loadProfile s bytes .a
 -- bytes behind a whole profile: 17 at their start, which is 7 times the number of codes
 abbrev pub ExtraBytesRefused : Type 0
 ExtraBytesRefused = (s : Settings) → Sound s → (b : ℕ) (more : List ℕ)
-    → judgeProfile s (profileOf s ++ (b ∷ more)) ≡ record { answer = brokenProfile; position = record { 0 = recordSize * length (profileCodes s) } }
+    → judgeProfile s (profileOf s ++ (b ∷ more)) ≡ record { answer = brokenRecord; position = record { 0 = recordSize * length (profileCodes s) } }
 
 -- a profile that ends early: 17 at the start of the record that is cut, and at the end of the profile where it ends with a record
 abbrev pub ShortProfileRefused : Type 0
 ShortProfileRefused = (s : Settings) → Sound s → (k r : ℕ) → k < length (profileCodes s) → r < recordSize
-    → judgeProfile s (take (recordSize * k + r) (profileOf s)) ≡ record { answer = brokenProfile; position = record { 0 = recordSize * k } }
+    → judgeProfile s (take (recordSize * k + r) (profileOf s)) ≡ record { answer = brokenRecord; position = record { 0 = recordSize * k } }
 
 -- ---- the invariant
 

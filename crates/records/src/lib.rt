@@ -25,7 +25,7 @@ fn word(low: u8, high: u8) -> u16
 }
 
 // Returns the number of four bytes, the low one first.
-fn long(a: u8, b: u8, c: u8, d: u8) -> u32
+pub fn long(a: u8, b: u8, c: u8, d: u8) -> u32
     ensures { λ r. ⌜ r ≡ a + (b + (c + d * 256) * 256) * 256 ⌝ }
 {
     wide32(a) + (wide32(b) + (wide32(c) + wide32(d) * 256) * 256) * 256

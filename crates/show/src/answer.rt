@@ -47,8 +47,10 @@ pub fn meaning(to: i32, n: u8) {
         too many words          \
         too deep                \
         transfer closed         \
-        profile broken          \
-        not to be declared      ";
+        record broken           \
+        not to be declared      \
+        token called twice      \
+        household called twice  ";
     crate::number(to, n as u64, 0);
     text(to, b", ");
     known(

@@ -4,9 +4,9 @@ use libc::STDOUT_FILENO;
 
 const TO: i32 = STDOUT_FILENO;
 
-// Writes the numbers from 0 to 20 with their meanings, then 255.
+// Writes the numbers from 0 to 22 with their meanings, then 255.
 fn answers() {
-    for n in 0u8..21 {
+    for n in 0u8..23 {
         show::answered(TO, b"", n);
     }
     show::answered(TO, b"", 255);

@@ -6,6 +6,7 @@
 //! # Safety
 //! Every function may be called with any numbers. A pointer and the length behind it must be those of one slice that
 //! may be read, and written where the pointer is `*mut`; a slice that is written overlaps no other slice of the call.
+use crate::call_list::Entry;
 use crate::display::{Declaration, Timing};
 
 #[repr(C)]
@@ -139,6 +140,29 @@ extern "C" {
 }
 
 #[repr(C)]
+#[derive(Clone, Copy)]
+pub struct CallList {
+    pub answer: u8,
+    pub entries: usize,
+    pub position: usize,
+}
+
+#[repr(C)]
+#[derive(Clone, Copy)]
+pub struct Household {
+    pub answer: u8,
+    pub there: u8,
+    pub number: usize,
+    pub position: usize,
+}
+
+extern "C" {
+    pub fn ddcci_check_call_list(list: *const u8, list_length: usize) -> CallList;
+    pub fn ddcci_find_household(list: *const u8, list_length: usize, household: u32) -> Household;
+    pub fn ddcci_call_list_entry(list: *const u8, list_length: usize, number: usize) -> Entry;
+}
+
+#[repr(C)]
 #[derive(Clone, Copy, PartialEq, Eq)]
 pub struct Settings {
     pub declared: [u64; 4],
@@ -244,6 +268,9 @@ const _: () = {
     has_size::<Reply>(32);
     has_size::<Reading>(24);
     has_size::<Transfer>(16);
+    has_size::<CallList>(24);
+    has_size::<Household>(24);
+    has_size::<Entry>(8);
     has_size::<Timing>(6);
     has_size::<Settings>(1704);
     has_size::<TextState>(6);

@@ -1,12 +1,11 @@
-//! The refusals of document 01's table of answer numbers.
+//! The refusals of the papers' table of answer numbers.
 use core::fmt;
 
 macro_rules! refusals {
     ($($(#[$doc:meta])* $name:ident = $number:literal, $text:literal;)*) => {
-        /// Why a call was refused. Each refusal has the number of document 01's table, and leaves what that table
-        /// says.
+        /// Why a call was refused. Each refusal has the number of the papers' table, and leaves what that table says.
         ///
-        /// Further numbers may join the table.
+        /// Document 01 has the numbers to 18; document 02 adds to them, and further ones may join.
         #[derive(Debug, Clone, Copy, PartialEq, Eq, Hash)]
         #[repr(u8)]
         #[non_exhaustive]
@@ -53,8 +52,8 @@ refusals! {
     ValueTooLarge = 9, "the value is above the maximum";
     /// An offset or fragment is not the one wanted.
     NotWanted = 10, "the offset or fragment is not the one wanted";
-    /// A text is too long for its room.
-    TextTooLong = 11, "the text is too long for its room";
+    /// A text is too long for its room, or a call list is over 1,024 bytes.
+    TextTooLong = 11, "the text is too long for its room (a call list has at most 1,024 bytes)";
     /// The null message was read.
     NullMessage = 12, "the display sent the null message: it is busy or does not know the command";
     /// A capabilities string does not follow the grammar.
@@ -65,14 +64,18 @@ refusals! {
     TooDeep = 15, "groups nest deeper than 8";
     /// The transfer is closed.
     TransferClosed = 16, "the transfer is closed: begin another";
-    /// A profile is broken.
-    BrokenProfile = 17, "the profile is broken";
+    /// A record of a profile or of a call list is broken.
+    BrokenRecord = 17, "a record of the profile or call list is broken: read it again";
     /// A declaration, timing, fragment size or budget is not allowed.
     NotDeclarable = 18, "the declaration, timing, fragment size or budget is not allowed";
+    /// A token stands twice in a call list.
+    RepeatedToken = 19, "a token stands twice in the call list: call nobody by it";
+    /// A household stands twice in a call list.
+    RepeatedHousehold = 20, "a household stands twice in the call list: call nobody by it";
 }
 
 impl Refusal {
-    /// Returns the number in document 01's table.
+    /// Returns the number in the papers' table.
     pub fn number(self) -> u8 {
         self as u8
     }
@@ -119,12 +122,13 @@ impl From<Refusal> for std::io::Error {
     }
 }
 
-/// Why a capabilities string or a profile was refused, and where.
+/// Why a capabilities string, a profile or a call list was refused, and where.
 #[derive(Debug, Clone, Copy, PartialEq, Eq)]
 pub struct RefusedAt {
-    /// The refusal: of a capabilities string 11, 13, 14 or 15, of a profile 8, 9 or 17.
+    /// The refusal: of a capabilities string 11, 13, 14 or 15, of a profile 8, 9 or 17, of a call list 11, 17, 19 or
+    /// 20.
     pub refusal: Refusal,
-    /// The position in the string, or of the record in the profile.
+    /// The position in the string, or where the record starts in the profile or the call list.
     pub position: usize,
 }
 
@@ -138,7 +142,7 @@ impl RefusedAt {
 
 impl fmt::Display for RefusedAt {
     fn fmt(&self, f: &mut fmt::Formatter<'_>) -> fmt::Result {
-        write!(f, "{} at {}", self.refusal, self.position)
+        write!(f, "refused {} at {}: {}", self.refusal.number(), self.position, self.refusal.meaning())
     }
 }
 

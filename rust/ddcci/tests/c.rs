@@ -16,6 +16,9 @@ cut by a byte: answer 4, the length byte is wrong, or the slice does not agree w
 (a(b)(c)): refused 13 at 5, the capabilities string does not follow the grammar
 (vcp(10 12))
 in 5 exchanges
+call list: tokens 102 101; household 2031 is in entry 1
+call list: tokens 102; household 2031 is not called
+call list: refused 20 at 12, a household stands twice in the call list: call nobody by it
 ";
 
 const DISPLAY_WRITES: &str = "\
@@ -131,6 +134,11 @@ answer 2: command 00, code 00, value 0; read: 2, 00, 00, 0
 brightness 70, list 3 bytes
 2 codes declared: 01 10
 39 bytes: answer 4; cut to 38: answer 0
+1020 bytes: answer 0, 85 entries, position 1020; household 84: answer 0, 1, 84, 0; last token 184
+1024 bytes: answer 17, 0 entries, position 1020; household 84: answer 17, 0, 0, 1020; last token 0
+1025 bytes: answer 11, 0 entries, position 0; household 84: answer 11, 0, 0, 0; last token 0
+0 bytes: answer 0, 0 entries, position 0; household 84: answer 0, 0, 0, 0; last token 0
+1020 bytes: answer 19, 0 entries, position 1008; household 84: answer 19, 0, 0, 1008; last token 0
 null message: answer 12
 ";
 

@@ -96,8 +96,12 @@ fn a_string_longer_than_its_room_is_not_shown() {
 #[test]
 fn any_argument_gets_an_answer() {
     let refused = phone(&[OsStr::from_bytes(b"(v\xFFcp(10))")]).unwrap_err();
-    assert_eq!(refused, "phone: refused 13: the capabilities string does not follow the grammar at 2\n");
-    assert!(phone(&[""]).unwrap_err().ends_with("grammar at 0\n"));
-    assert!(phone(&["6E8"]).unwrap_err().ends_with("grammar at 0\n"));
+    assert_eq!(refused, "phone: refused 13 at 2: the capabilities string does not follow the grammar\n");
+    assert!(phone(&[""])
+        .unwrap_err()
+        .ends_with("refused 13 at 0: the capabilities string does not follow the grammar\n"));
+    assert!(phone(&["6E8"])
+        .unwrap_err()
+        .ends_with("refused 13 at 0: the capabilities string does not follow the grammar\n"));
     assert_eq!(phone(&["()"]), Ok(REQUESTS.into()));
 }

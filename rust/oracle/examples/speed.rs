@@ -3,6 +3,7 @@
 use std::hint::black_box;
 use std::time::Instant;
 
+use oracle::call_list;
 use oracle::capabilities;
 use oracle::display::{Display, Timing};
 use oracle::message::*;
@@ -192,10 +193,25 @@ fn profiles() {
     });
 }
 
+fn call_lists() {
+    for records in [85, 8] {
+        let list: Vec<u8> = (0..records)
+            .flat_map(|i: u32| [[10, 0, 32, 0], (101 + i).to_le_bytes(), (2000 + i * 31 % 85).to_le_bytes()].concat())
+            .collect();
+        time(&format!("judge a call list of {records}"), 5000, || {
+            let _ = black_box(call_list::judge(black_box(&list)));
+        });
+        time(&format!("check a call list of {records}, entries kept"), 5000, || {
+            let _ = black_box(call_list::check(black_box(&list)));
+        });
+    }
+}
+
 fn main() {
     messages();
     capabilities_strings();
     displays();
     transfers();
     profiles();
+    call_lists();
 }

@@ -1,4 +1,4 @@
-//! The answer numbers of document 01's table.
+//! The answer numbers of document 01's table, and those that document 02 adds.
 
 /// 0: done.
 pub const DONE: u8 = 0;
@@ -34,7 +34,11 @@ pub const NODE_ROOM: u8 = 14;
 pub const DEPTH: u8 = 15;
 /// 16: transfer already closed.
 pub const CLOSED: u8 = 16;
-/// 17: settings profile broken.
-pub const PROFILE: u8 = 17;
+/// 17: a record broken, of a settings profile or of a call list.
+pub const RECORD: u8 = 17;
 /// 18: declaration, fragment size or budget not allowed.
 pub const NOT_ALLOWED: u8 = 18;
+/// 19: a call list that has a token twice.
+pub const REPEATED_TOKEN: u8 = 19;
+/// 20: a call list that has a household twice.
+pub const REPEATED_HOUSEHOLD: u8 = 20;

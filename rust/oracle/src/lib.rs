@@ -1,4 +1,5 @@
-//! An independent implementation of document 01: both ends of DDC/CI.
+//! An independent implementation of document 01, both ends of DDC/CI, and of
+//! the requests of document 02 that have landed.
 //!
 //! It is written from the papers alone, to be compared with another
 //! implementation, and to stand as the baseline of its benchmarks. Names are
@@ -9,6 +10,8 @@
 #![warn(missing_docs)]
 
 pub mod answer;
+pub mod call_list;
+pub mod call_list_by_definition;
 pub mod capabilities;
 pub mod capabilities_by_definition;
 pub mod conforming;

@@ -49,10 +49,10 @@ pub fn load(settings: &mut Settings, bytes: &[u8]) -> Result<(), (u8, usize)> {
     for &[l0, l1, k0, k1, code, low, high] in records {
         let Some(next) = expected.next() else {
             // Bytes after the last code's record.
-            return Err((answer::PROFILE, place));
+            return Err((answer::RECORD, place));
         };
         if [l0, l1, k0, k1] != HEAD {
-            return Err((answer::PROFILE, place));
+            return Err((answer::RECORD, place));
         }
         if code != next {
             return Err((answer::CODE, place));
@@ -65,7 +65,7 @@ pub fn load(settings: &mut Settings, bytes: &[u8]) -> Result<(), (u8, usize)> {
     // A cut record, bytes after the last one, or records missing: all three
     // at the end of the whole records.
     if !rest.is_empty() || expected.next().is_some() {
-        return Err((answer::PROFILE, place));
+        return Err((answer::RECORD, place));
     }
     for &[_, _, _, _, code, low, high] in records {
         settings.restore(code, u16::from_le_bytes([low, high]));

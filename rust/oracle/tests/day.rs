@@ -1,6 +1,7 @@
 //! The day at the water point (`crates/day`), played again by this implementation: every line that the program must
 //! write (`crates/day/stdout`) is worked out here, from the same list, the same values and the same rule of the line.
 
+use oracle::call_list as gate;
 use oracle::display::{Display, Timing};
 use oracle::message::*;
 use oracle::settings::Declaration;
@@ -21,7 +22,8 @@ fn meaning(answer: u8) -> String {
         5 => "check byte wrong",
         9 => "value above the maximum",
         10 => "not the fragment wanted",
-        17 => "profile broken",
+        17 => "record broken",
+        20 => "household called twice",
         _ => panic!("the day has no answer {answer}"),
     };
     format!("{answer}, {words}")
@@ -196,6 +198,26 @@ fn write_list(said: &mut String, site: &mut Site, list: &[u8]) {
     .unwrap();
 }
 
+/// The gates check what they read; the first one also a copy whose fourth household is the first one's, 2000.
+fn gate(said: &mut String, first: bool, list: &[u8]) {
+    let entries = gate::judge(list).expect("the list is accepted");
+    let entry =
+        list.chunks(12).position(|record| record[8..] == 2008u32.to_le_bytes()).expect("household 2008 is called");
+    writeln!(
+        said,
+        "    the gate's check: {}; {entries} households are called once each, household 2008 by entry {entry}",
+        meaning(0)
+    )
+    .unwrap();
+    if first {
+        let mut copy = list.to_vec();
+        copy[entry * 12 + 8..][..4].copy_from_slice(&2000u32.to_le_bytes());
+        let (answer, place) = gate::judge(&copy).unwrap_err();
+        writeln!(said, "    a copy with household 2000 in place of 2008: {}, at byte {place}", meaning(answer))
+            .unwrap();
+    }
+}
+
 fn tree(said: &mut String) {
     let (mut starts, mut lengths, mut parents, mut groups) = ([0; 512], [0; 512], [0; 512], [0; 512]);
     let count = capabilities::read(CAPABILITIES, &mut starts, &mut lengths, &mut parents, &mut groups).unwrap();
@@ -266,6 +288,7 @@ fn day() -> String {
                         said.push_str("    no. asks at   the line        came   joined   answer\n");
                     }
                     site.read(&mut said, Text::Table, if i == 0 { 8 } else { 0 }, &list);
+                    gate(&mut said, i == 0, &list);
                 }
                 3 => {
                     site.read(&mut said, Text::Capabilities, 0, CAPABILITIES);

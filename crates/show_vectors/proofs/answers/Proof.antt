@@ -1,14 +1,14 @@
--- `show_vectors::answers` is safe and ends: the number rises to 21.
+-- `show_vectors::answers` is safe and ends: the number rises to 23.
 use Prim.Native.Nat.{_≤_, _-_}
 use borrow.Author.Needs.{needs}
 use Rattle.show_vectors.proofs.answers.Statement.{statement}
 use Rattle.show_vectors.proofs.answers.Tie as tie
 
 abbrev Inv-loop : tie.InvT-loop
-Inv-loop n₀ t2 t3 n = n ≤ 21
+Inv-loop n₀ t2 t3 n = n ≤ 23
 
 abbrev μ-loop : tie.MeasureT-loop
-μ-loop n₀ t2 t3 n = 21 - n
+μ-loop n₀ t2 t3 n = 23 - n
 
 loop-holds : tie.Need-loop-holds Inv-loop μ-loop
 loop-holds c = search needs

@@ -1,5 +1,6 @@
 //! Paneknoll's proved functions beside the oracle's, in one run: `cargo bench`. Each line is what is measured,
 //! Paneknoll, the oracle, and the ratio of the two; of a step of the display also the oracle by `&mut`.
+mod call_lists;
 mod capabilities;
 mod checksum;
 mod display;
@@ -15,5 +16,6 @@ fn main() {
     capabilities::run();
     installed::run();
     transfers::run();
+    call_lists::run();
     display::run();
 }

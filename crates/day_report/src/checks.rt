@@ -1,0 +1,34 @@
+// What came of checking a call list, and of loading a settings profile.
+use crate::OUT;
+use crate::line;
+use message_rules::answer;
+
+// Writes a line that ends with an answer, and with its position where it is a refusal.
+pub fn answered(what: &[u8], answer: u8, place: usize) {
+    show::text(OUT, what);
+    show::answer::meaning(OUT, answer);
+    if answer != answer::DONE {
+        line(b", at byte #", &[place as u64]);
+    }
+    show::text(OUT, b"\n");
+}
+
+// Writes what the gate's check said of a list, and how many households it calls.
+pub fn checked(answer: u8, entries: usize) {
+    show::text(OUT, b"    the gate's check: ");
+    show::answer::meaning(OUT, answer);
+    line(b"; # households are called once each, ", &[entries as u64]);
+}
+
+// Writes which entry calls a household, behind what the check said.
+pub fn called(household: u32, number: usize) {
+    line(
+        b"household # by entry #\n",
+        &[household as u64, number as u64],
+    );
+}
+
+// Writes that no entry calls it.
+pub fn never_called(household: u32) {
+    line(b"household # by NO ENTRY\n", &[household as u64]);
+}

@@ -93,8 +93,9 @@ typedef struct {
     size_t position;
 } ddcci_call_list;
 
-/* What the query of a household answers: 1 and its entry's number, counted from 0; or 0 and 0 where the
- * household is not there. The position is 0, or of a refused list where the refused record starts. */
+/* What the query of a household answers: there 1 and its entry's number, counted from 0; or there 0 and
+ * number 0 where the household is not there. The position is 0, or of a refused list where the refused
+ * record starts. */
 typedef struct {
     uint8_t answer;
     uint8_t there;
@@ -183,7 +184,7 @@ ddcci_transfer ddcci_receive(ddcci_transfer transfer, uint8_t *buffer, size_t bu
  * 2 bytes each, the token and the household in 4 bytes each, the lowest byte first. Answers 0 with the
  * number of entries, which for the empty list is 0; 11 at 0 for more than DDCCI_LONGEST_CALL_LIST bytes;
  * else the position of the first record that is broken (17), repeats the token of an earlier one (19) or
- * repeats its household (20), in that order for one record. */
+ * the household of an earlier one (20), in that order for one record. */
 ddcci_call_list ddcci_check_call_list(const uint8_t *list, size_t list_length);
 
 /* Finds the entry that calls a household: answers 0 with there 1 and the entry's number, or with there 0;

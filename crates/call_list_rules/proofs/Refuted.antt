@@ -6,7 +6,7 @@
 use mathlib.Core.Path.{_≡_, refl, sym, ap, _∙_}
 use mathlib.Core.Bool.{Bool, cond, _&&_}
 use mathlib.Core.List.{List, [], _∷_}
-use Prim.Native.Nat.{ℕ, suc, _-_, _≤_}
+use Prim.Native.Nat.{ℕ, suc, _-_, _/_, _≤_}
 use native.Mathlib.Omega.{arith}
 use lib.ListN.{length, drop, replicate, length-replicate}
 use lib.Dec.{leb, eqb}
@@ -100,7 +100,7 @@ last-free-refuted h =
 -- all records are looked at for their form, and only then for repeats
 abbrev formFirst : CheckRule
 formFirst s =
-    let form = firstRefused (λ (k : ℕ). cond (isWhole s k) done brokenRecord) (begunIn (length s)) 0 in
+    let form = checkBy (λ (t : List ℕ) (k : ℕ). cond (isWhole t k) done brokenRecord) s in
     cond (eqb (form .answer) done) (checkList s) form
 
 -- a repeat, and behind it a byte too many
@@ -112,7 +112,11 @@ form-first-refuted h =
 
 -- the length field is not looked at
 abbrev anyLength : List ℕ → ℕ → ℕ
-anyLength s k = let bytes = drop (startOf k) s in cond (leb 12 (length bytes) && eqb (wordAt bytes 2) entryKind) done brokenRecord
+anyLength s k =
+    let bytes = drop (startOf k) s in
+    cond (leb 12 (length bytes) && eqb (wordAt bytes 2) entryKind)
+    (cond (among (tokenOf s) k (tokenOf s k)) repeatedToken (cond (among (householdOf s) k (householdOf s k)) repeatedHousehold done))
+    brokenRecord
 
 -- a record whose length is 11
 pub any-length-refuted : FirstRefused (checkBy anyLength) → ⊥
@@ -123,7 +127,7 @@ any-length-refuted h =
 
 -- the refusal's position is the record's number
 abbrev numbered : CheckRule
-numbered s = let c = checkList s in record { answer = c .answer; entries = c .entries; position = record { 0 = c .position .0 - 11 } }
+numbered s = let c = checkList s in record { answer = c .answer; entries = c .entries; position = record { 0 = c .position .0 / 12 } }
 
 pub numbered-refuted : FirstRefused numbered → ⊥
 unfolding checkList firstRefused recordAnswer among beginsWith

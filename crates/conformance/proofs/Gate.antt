@@ -39,11 +39,11 @@ module _ (c : Calls) (step : StepRule) (check : CheckRule) (entry : EntryRule) w
         given = λ k. ap (λ (s : List ℕ). entry s k) e ∙ gives (x .entries) table (x .isList) k;
       }
 
-  pub gate-reads-by : BothEnds c step → AcceptsExactly check → EntriesGiven entry → GateReads c step check entry
+  pub gate-reads-by : BothEnds c step → AcceptsExactly check → EntriesGiven entry → GateReads c step bytesRead check entry
   gate-reads-by ends accepts gives now out buffer budget ready es n between d a =
       let claim = ends Table now out buffer budget ready es n between .2 in
       accepted-calls accepts gives (whole Table now) (bytesRead (afterAll c (startOf c (setupOf Table now buffer budget)) es)) (done-bytes now buffer budget _ (length es) n claim d) a
 
 -- of ours
-pub gate-reads : GateReads rules stepKept checkList entryOf
+pub gate-reads : GateReads rules stepKept bytesRead checkList entryOf
 gate-reads = gate-reads-by rules stepKept checkList entryOf both-ends accepts-exactly entries-given

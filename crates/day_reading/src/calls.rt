@@ -46,7 +46,15 @@ fn called(f: Found) -> bool {
 // Returns whether it calls every household once.
 fn accepted(list: &[u8]) -> bool {
     let checked = call_list::check(list);
-    checks::checked(checked.answer, checked.entries);
+    if checked.answer != answer::DONE {
+        checks::answered(
+            b"    the gate's check: ",
+            checked.answer,
+            checked.position.0,
+        );
+        return false;
+    }
+    checks::checked(checked.entries);
     let found = called(call_list::find(list, HOUSEHOLD));
     if checked.entries == HOUSEHOLDS {
         return found;

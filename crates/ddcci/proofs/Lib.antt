@@ -1,3 +1,4 @@
 pub mod Texts
+pub mod Households
 pub mod Follow
 pub mod Refuted

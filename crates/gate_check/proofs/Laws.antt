@@ -11,14 +11,14 @@ use lib.Dec.{leb}
 use borrow.Author.Tests.{leb-true, leb-false}
 use Rattle.io.specs.Digits.{Fewest}
 use Rattle.buffers.specs.Buffers.{put, putWhole}
-use Rattle.buffers.proofs.Puts.{put-fits, put-length, put-next}
+use Rattle.buffers.proofs.Puts.{put-none, put-fits, put-length, put-next}
 use Rattle.call_list_rules.specs.CallList.{checkList, noEntry, entryOf}
 use Rattle.call_list_rules.specs.Statements.{IsList, tokensOf}
 use Rattle.call_list_rules.specs.declared.Checked.{Checked}
 use Rattle.call_list_rules.specs.declared.Entry.{Entry}
 use Rattle.call_list_rules.proofs.Theorems.{accepts-exactly, entries-given, refused-none}
 use Rattle.gate_check.specs.Tokens.{Decimal, Lines, none, line, Written}
-use Rattle.gate_check.specs.Parts.{lineRoom, PutsLine}
+use Rattle.gate_check.specs.Parts.{lineRoom, PutsLine, PutsTokens}
 
 -- ---- a line
 
@@ -52,15 +52,6 @@ line-length n before after at end room p =
     let short = p .short in
     ap length (p .there) ∙ put-length before at written (omega (arith, length-append (p .number) (0x0A ∷ [])))
 
--- what stands up to the end of what was put
-put-taken : (before s : List ℕ) (at : ℕ) → at ≤ length before → take (at + length s) (put before at s) ≡ take at before ++ s
-put-taken before s at l =
-    let front = take at before in
-    let n : length front ≡ at = length-take-le at before l in
-    ap (λ (i : ℕ). take (i + length s) (put before at s)) (sym n)
-    ∙ take-append-add front (s ++ drop (at + length s) before) (length s)
-    ∙ ap (λ (t : List ℕ). front ++ t) (take-append-seam s (drop (at + length s) before))
-
 -- ---- lines
 
 -- a line behind others
@@ -77,27 +68,58 @@ LinesOf s k text = (es : List Entry) → IsList es s → Lines (take k (tokensOf
 tokens-counted : (es : List Entry) (s : List ℕ) → IsList es s → length (tokensOf es) ≡ checkList s .entries
 tokens-counted es s x = length-map es (λ (e : Entry). e .token) ∙ sym (ap (λ (c : Checked). c .entries) (accepts-exactly .every es s x))
 
+-- the text so far: the lines of the first k tokens, put at its start
+pub record SoFar (s before : List ℕ) (k : ℕ) (now : List ℕ) (at : ℕ) : Type 0 where
+  pub text : List ℕ
+  pub lines : LinesOf s k text
+  pub there : now ≡ put before 0 text
+  pub size : at ≡ length text
+  pub short : at ≤ lineRoom * k
+
+pub none-so-far : (s before : List ℕ) → SoFar s before 0 before 0
+none-so-far s before = record { text = []; lines = λ es x. none; there = sym (put-none before 0); size = refl; short = omega arith }
+
+-- the token of an entry
+token-is : (es : List Entry) (s : List ℕ) → IsList es s → (k : ℕ) (entry : Entry) → entry ≡ entryOf s k → entry .token ≡ getD (tokensOf es) k 0
+token-is es s x k entry e = ap (λ (y : Entry). y .token) (e ∙ entries-given es s x k) ∙ sym (List·getD-map (λ (y : Entry). y .token) es k noEntry)
+
 -- one more line
-pub lines-put : (s before after : List ℕ) (k at end : ℕ) (entry : Entry) → k < checkList s .entries → at ≤ length before → entry ≡ entryOf s k
-    → PutsLine (entry .token) before at after end → LinesOf s k (take at before) → LinesOf s (k + 1) (take end after)
-lines-put s before after k at end entry l room e p lines es x =
+lines-more : (s text number : List ℕ) (k : ℕ) (entry : Entry) → k < checkList s .entries → entry ≡ entryOf s k → Decimal (entry .token) number → LinesOf s k text
+    → LinesOf s (k + 1) (text ++ (number ++ (0x0A ∷ [])))
+lines-more s text number k entry l e d lines es x =
     let ts = tokensOf es in
     let inside : k < length ts = omega (arith, tokens-counted es s x) in
-    let written = p .number ++ (0x0A ∷ []) in
-    let token : entry .token ≡ getD ts k 0 = ap (λ (y : Entry). y .token) (e ∙ entries-given es s x k) ∙ sym (List·getD-map (λ (y : Entry). y .token) es k noEntry) in
+    let q : suc k ≡ k + 1 = omega arith in
     let numbers : take k ts ++ (entry .token ∷ []) ≡ take (k + 1) ts =
-    ap (λ (n : ℕ). take k ts ++ (n ∷ [])) token ∙ sym (take-suc ts k 0 inside) ∙ (let q : suc k ≡ k + 1 = omega arith in ap (λ (n : ℕ). take n ts) q) in
-    let size : end ≡ at + length written = p .behind ∙ ap (λ (n : ℕ). at + n) (sym (length-append (p .number) (0x0A ∷ []))) in
-    let text : take at before ++ written ≡ take end after = sym (put-taken before written at room) ∙ ap₂ take (sym size) (sym (p .there)) in
-    subst (λ (t : List ℕ). Lines t (take end after)) numbers
-    (subst (Lines (take k ts ++ (entry .token ∷ []))) text (lines-next (take k ts) (take at before) (entry .token) (p .number) (lines es x) (p .decimal)))
+    ap (λ (n : ℕ). take k ts ++ (n ∷ [])) (token-is es s x k entry e) ∙ sym (take-suc ts k 0 inside) ∙ ap (λ (n : ℕ). take n ts) q in
+    subst (λ (t : List ℕ). Lines t (text ++ (number ++ (0x0A ∷ [])))) numbers (lines-next (take k ts) text (entry .token) number (lines es x) d)
+
+pub line-so-far : (s before now after : List ℕ) (k at end : ℕ) (entry : Entry) → k < checkList s .entries → lineRoom * (k + 1) ≤ length before → entry ≡ entryOf s k
+    → PutsLine (entry .token) now at after end → SoFar s before k now at → SoFar s before (k + 1) after end
+line-so-far s before now after k at end entry l room e p far =
+    let written = p .number ++ (0x0A ∷ []) in
+    let size = far .size in
+    let little = p .short in
+    let close = far .short in
+    let z : at ≡ 0 + length (far .text) = omega arith in
+    record {
+      text = far .text ++ written;
+      lines = lines-more s (far .text) (p .number) k entry l e (p .decimal) (far .lines);
+      there = p .there ∙ ap₂ (λ (t : List ℕ) (i : ℕ). put t i written) (far .there) z ∙ put-next before 0 (far .text) written (omega arith);
+      size = omega (arith, p .behind, length-append (far .text) written, length-append (p .number) (0x0A ∷ []));
+      short = omega (arith, p .behind);
+    }
 
 -- all lines, or none
-pub lines-end : (s text : List ℕ) (k at : ℕ) → k ≡ checkList s .entries → at ≤ lineRoom * k → LinesOf s k (take at text) → Written s (take at text)
-lines-end s text k at e l lines = record { tokens = all; nothing = refused }
+pub all-put : (s before now : List ℕ) (k at : ℕ) → k ≡ checkList s .entries → SoFar s before k now at → PutsTokens s before now at
+all-put s before now k at e far = record { text = far .text; written = record { tokens = all; nothing = refused }; there = far .there; counted = far .size }
   where
-    all : (es : List Entry) → IsList es s → Lines (tokensOf es) (take at text)
-    all es x = subst (λ (t : List ℕ). Lines t (take at text)) (take-all k (tokensOf es) (omega (arith, tokens-counted es s x))) (lines es x)
+    all : (es : List Entry) → IsList es s → Lines (tokensOf es) (far .text)
+    all es x = subst (λ (t : List ℕ). Lines t (far .text)) (take-all k (tokensOf es) (omega (arith, tokens-counted es s x))) (far .lines es x)
 
-    refused : (checkList s .answer ≡ 0 → ⊥) → take at text ≡ []
-    refused z = let q : at ≡ 0 = omega (arith, refused-none s z) in ap (λ (n : ℕ). take n text) q
+    nil : (t : List ℕ) → length t ≡ 0 → t ≡ []
+    nil [] h = refl
+    nil (y ∷ t) h = absurd (omega arith)
+
+    refused : (checkList s .answer ≡ 0 → ⊥) → far .text ≡ []
+    refused z = let size = far .size in let short = far .short in nil (far .text) (omega (arith, refused-none s z))

@@ -5,7 +5,7 @@ use mathlib.Core.List.{List, [], _∷_, _++_}
 use lib.ListN.{length}
 use Rattle.buffers.specs.Buffers.{put}
 use Rattle.call_list_rules.specs.Limits.{mostEntries}
-use Rattle.gate_check.specs.Tokens.{Decimal}
+use Rattle.gate_check.specs.Tokens.{Decimal, Written}
 
 -- the room for a line, and for the lines of any list
 abbrev pub lineRoom : ℕ
@@ -21,3 +21,10 @@ pub record PutsLine (n : ℕ) (before : List ℕ) (at : ℕ) (after : List ℕ) 
   pub short : length number < lineRoom
   pub there : after ≡ put before at (number ++ (0x0A ∷ []))
   pub behind : end ≡ at + (length number + 1)
+
+-- what is written of the bytes s is put at the start of a text, and how many bytes it is is given
+pub record PutsTokens (s before after : List ℕ) (count : ℕ) : Type 0 where
+  pub text : List ℕ
+  pub written : Written s text
+  pub there : after ≡ put before 0 text
+  pub counted : count ≡ length text

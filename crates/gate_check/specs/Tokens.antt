@@ -22,3 +22,10 @@ pub data Lines : (numbers text : List ℕ) → Type 0 where
 pub record Written (s text : List ℕ) : Type 0 where
   pub tokens : (es : List Entry) → IsList es s → Lines (tokensOf es) text
   pub nothing : (checkList s .answer ≡ 0 → ⊥) → text ≡ []
+
+-- a rule that says what is written of any bytes, and that it is this
+abbrev pub WriteRule : Type 0
+WriteRule = List ℕ → List ℕ
+
+abbrev pub WritesTokens : WriteRule → Type 0
+WritesTokens write = (s : List ℕ) → Written s (write s)

@@ -4,9 +4,8 @@ use buffers::put_octet;
 use call_list_rules::EntryNumber;
 use call_list_rules::limits::MOST_ENTRIES;
 ghost use Prim.Native.Nat.{_+_, _≤_};
-ghost use lib.ListN.{length, take};
-ghost use Rattle.gate_check.specs.Tokens.{Written};
-ghost use Rattle.gate_check.specs.Parts.{PutsLine, lineRoom, textRoom};
+ghost use lib.ListN.{length};
+ghost use Rattle.gate_check.specs.Parts.{PutsLine, PutsTokens, lineRoom, textRoom};
 
 // The room for a line: the ten digits of the highest token, and the line end.
 const LINE_ROOM: usize = 11;
@@ -32,7 +31,7 @@ fn put_line(text: &mut [u8], at: usize, token: u32) -> usize
 // Returns how many bytes they are: none, where the list is refused.
 pub(crate) fn put_tokens(list: &[u8], text: &mut [u8]) -> usize
     requires { ⌜ textRoom ≤ length (now text) ⌝ }
-    ensures { λ r. ⌜ Written (now (list .entry)) (take r (now (text .exit))) ⌝ }
+    ensures { λ r. ⌜ PutsTokens (now (list .entry)) (now (text .entry)) (now (text .exit)) r ⌝ }
 {
     let checked = call_list::check(list);
     let entries = checked.entries;

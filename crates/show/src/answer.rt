@@ -47,7 +47,7 @@ pub fn meaning(to: i32, n: u8) {
         too many words          \
         too deep                \
         transfer closed         \
-        record broken           \
+        records broken          \
         not to be declared      \
         token called twice      \
         household called twice  ";

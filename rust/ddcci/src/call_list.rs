@@ -59,7 +59,8 @@ impl<'a> CallList<'a> {
     /// Checks a call list. The empty one is accepted.
     ///
     /// More than [`LONGEST_CALL_LIST`] bytes are refused with 11 at 0. Else the position is where the first record
-    /// starts that is broken (17), repeats the token of an earlier one (19) or repeats its household (20).
+    /// starts that is broken (17), repeats the token of an earlier one (19) or the household of an earlier one (20),
+    /// in that order for one record.
     pub fn read(list: &'a [u8]) -> Result<CallList<'a>, RefusedAt> {
         // SAFETY: pointer and length are those of one slice.
         let r = unsafe { raw::ddcci_check_call_list(list.as_ptr(), list.len()) };

@@ -64,8 +64,8 @@ refusals! {
     TooDeep = 15, "groups nest deeper than 8";
     /// The transfer is closed.
     TransferClosed = 16, "the transfer is closed: begin another";
-    /// A record of a profile or of a call list is broken.
-    BrokenRecord = 17, "a record of the profile or call list is broken: read it again";
+    /// A record of a profile or of a call list is broken, or of a profile missing or too many.
+    BrokenRecord = 17, "the profile or call list is broken here: do not use it";
     /// A declaration, timing, fragment size or budget is not allowed.
     NotDeclarable = 18, "the declaration, timing, fragment size or budget is not allowed";
     /// A token stands twice in a call list.

@@ -3,6 +3,8 @@ mod common;
 use common::program;
 use std::fs::File;
 use std::io::Write;
+use std::os::fd::OwnedFd;
+use std::os::unix::net::UnixStream;
 use std::process::{Child, Command, Stdio};
 use std::thread::sleep;
 use std::time::Duration;
@@ -130,6 +132,19 @@ fn a_list_that_comes_in_pieces_is_read_whole() {
     for most in [1, 5, 12, 13] {
         assert_eq!(wrote_for_pieces("gate_check", &list, most), ("31\n32\n33\n34\n".into(), "".into()));
     }
+}
+
+/// The other end of a socket closes with a byte unread: two whole records come, then one read fails, then the input has
+/// ended. The records may be a cut list, so nobody is called by them.
+#[test]
+fn an_input_that_fails_behind_a_record_is_no_list() {
+    let (mut read_end, mut far_end) = UnixStream::pair().unwrap();
+    read_end.write_all(b"?").unwrap();
+    far_end.write_all(&call_list([7, 8])).unwrap();
+    drop(far_end);
+    let (out, said) = wrote(started("gate_check", OwnedFd::from(read_end).into()));
+    assert_eq!(out, "");
+    assert!(said.starts_with("gate_check: standard input cannot be read to its end"), "{said}");
 }
 
 /// Not a byte is written, neither the tokens before the refused record nor a reason.

@@ -22,7 +22,7 @@ fn meaning(answer: u8) -> String {
         5 => "check byte wrong",
         9 => "value above the maximum",
         10 => "not the fragment wanted",
-        17 => "record broken",
+        17 => "records broken",
         20 => "household called twice",
         _ => panic!("the day has no answer {answer}"),
     };

@@ -11,12 +11,12 @@ use Rattle.call_list_rules.specs.declared.Checked.{Checked}
 use Rattle.call_list_rules.proofs.Theorems.{entries-at-most}
 use Rattle.gate_check.specs.Tokens.{none}
 use Rattle.gate_check.specs.Parts.{lineRoom}
-use Rattle.gate_check.proofs.Laws.{LinesOf, line-length, lines-put, lines-end}
+use Rattle.gate_check.proofs.Laws.{SoFar, none-so-far, line-length, line-so-far, all-put}
 use Rattle.gate_check.proofs.tokens.put_tokens.Statement.{statement}
 use Rattle.gate_check.proofs.tokens.put_tokens.Tie as tie
 
 abbrev Inv-loop : tie.InvT-loop
-Inv-loop list text₀ entries at₀ k₀ text at k = (k ≤ entries) × (at ≤ lineRoom * k) × (length text ≡ length text₀) × LinesOf list k (take at text)
+Inv-loop list text₀ entries at₀ k₀ text at k = (k ≤ entries) × (length text ≡ length text₀) × SoFar list text₀ k text at
 
 abbrev μ-loop : tie.MeasureT-loop
 μ-loop list text₀ entries at₀ k₀ text at k = entries - k
@@ -32,13 +32,13 @@ few : (c : tie.After-check Inv-loop μ-loop) → c .check .result .entries ≤ m
 few c = omega (arith, counted c, entries-at-most (c .before .before .before .args .list .now))
 
 loop-holds : tie.Need-loop-holds Inv-loop μ-loop
-loop-holds c = (omega arith, omega arith, refl, λ es x. none)
+loop-holds c = let given = c .before .before .before in (omega arith, refl, none-so-far (given .args .list .now) (given .args .text .now))
 
 entry-requires : tie.Need-entry-requires Inv-loop μ-loop
 entry-requires c κs = search needs
 
 put-line-requires : tie.Need-put-line-requires Inv-loop μ-loop
-put-line-requires c κs = omega (arith, few (c .before .before .before .before))
+put-line-requires c κs = let short = c .before .before .before .loop .inv .2 .short in omega (arith, few (c .before .before .before .before))
 
 add-k : tie.Need-add-k Inv-loop μ-loop
 add-k c = omega arith
@@ -54,22 +54,22 @@ loop-again c =
     let given = start .before .before .before in
     let e = counted start in
     let l = few start in
-    let p = put .put-line .ensures in
-    let short = p .short in (
+    let far = turn .loop .inv .2 in
+    let short = far .short in (
       omega arith,
-      omega (arith, p .behind),
-      line-length _ (turn .loop .text) _ (turn .loop .at) _ (omega arith) p ∙ turn .loop .inv .2,
-      lines-put (given .args .list .now) (turn .loop .text) _ (turn .loop .k) (turn .loop .at) _ _ (omega arith) (omega arith) (put .before .before .entry .ensures) p (turn .loop .inv .3),
+      line-length _ (turn .loop .text) _ (turn .loop .at) _ (omega arith) (put .put-line .ensures) ∙ turn .loop .inv .1,
+      line-so-far (given .args .list .now) (given .args .text .now) (turn .loop .text) _ (turn .loop .k) (turn .loop .at) _ _ (omega arith) (omega arith) (put .before .before .entry .ensures) (put .put-line .ensures) far,
     )
 
 same-length : tie.Need-same-length Inv-loop μ-loop
-same-length c = c .before .loop .inv .2
+same-length c = c .before .loop .inv .1
 
 returns : tie.Need-returns Inv-loop μ-loop
 returns c =
     let turn = c .before in
     let start = turn .before in
-    lines-end (start .before .before .before .args .list .now) (turn .loop .text) (turn .loop .k) (turn .loop .at) (omega (arith, counted start)) (turn .loop .inv .1) (turn .loop .inv .3)
+    let given = start .before .before .before in
+    all-put (given .args .list .now) (given .args .text .now) (turn .loop .text) (turn .loop .k) (turn .loop .at) (omega (arith, counted start)) (turn .loop .inv .2)
 
 pub put-tokens-spec : {M : Type 1} → statement M
 put-tokens-spec =

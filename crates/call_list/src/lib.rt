@@ -26,7 +26,7 @@ ghost use lib.ListN.{length};
 ghost use Rattle.call_list_rules.specs.CallList.{startOf, tokenOf, householdOf, among, recordAnswer, refusedAt, checkList, searchFrom, findHousehold, entryOf};
 ghost use Rattle.call_list.specs.Parts.{fieldOf, numberIn, Held};
 
-// The room of a row of numbers: one for each of 85 entries.
+// The room of a row of numbers: at least one for each of 85 entries.
 // It is a multiple of 16 bytes, where several numbers are compared at a time fastest.
 const ROW_ROOM: usize = 88;
 
@@ -76,13 +76,13 @@ fn record_answer(list: &[u8], k: usize, tokens: &[u32], households: &[u32]) -> u
 }
 
 // Returns a refusal with its position.
-fn refused(answer: u8, at: usize) -> Checked
-    ensures { λ r. ⌜ r ≡ refusedAt answer at ⌝ }
+fn refused(answer: u8, at: Position) -> Checked
+    ensures { λ r. ⌜ r ≡ refusedAt answer (at .0) ⌝ }
 {
     Checked {
         answer: answer,
         entries: 0,
-        position: Position(at),
+        position: at,
     }
 }
 
@@ -92,7 +92,7 @@ pub fn check(list: &[u8]) -> Checked
     ensures { λ r. ⌜ r ≡ checkList (now (list .entry)) ⌝ }
 {
     if list.len() > LONGEST_LIST {
-        return refused(TEXT_TOO_LONG, 0);
+        return refused(TEXT_TOO_LONG, Position(0));
     }
     let mut tokens = [0u32; ROW_ROOM];
     let mut households = [0u32; ROW_ROOM];
@@ -100,16 +100,18 @@ pub fn check(list: &[u8]) -> Checked
     while k * RECORD_SIZE < list.len() {
         let answer = record_answer(list, k, &tokens, &households);
         if answer != DONE {
-            return refused(answer, k * RECORD_SIZE);
+            let at = k * RECORD_SIZE;
+            return refused(answer, Position(at));
         }
         tokens[k] = field_of(list, k, TOKEN_AT);
         households[k] = field_of(list, k, HOUSEHOLD_AT);
         k += 1;
     }
+    let end = k * RECORD_SIZE;
     Checked {
         answer: DONE,
         entries: k,
-        position: Position(k * RECORD_SIZE),
+        position: Position(end),
     }
 }
 

@@ -1,5 +1,5 @@
 -- Document 02, K9: the gate check.
-use Prim.Native.Nat.{ℕ, zero, suc, _+_, _*_, _/_}
+use Prim.Native.Nat.{ℕ, zero, suc, _+_, _-_, _*_, _/_}
 use mathlib.Core.Bool.{Bool, false, cond, _||_}
 use mathlib.Core.List.{List}
 use lib.ListN.{length, drop}
@@ -59,7 +59,7 @@ firstRefused answers (suc n) k = cond (eqb (answers k) done) (firstRefused answe
 
 -- how many records start in so many bytes: the last one may be cut
 abbrev pub begunIn : ℕ → ℕ
-begunIn size = (size + 11) / recordSize
+begunIn size = (size + (recordSize - 1)) / recordSize
 
 -- "Over 1,024 bytes is 11 at 0, before the others."
 unfoldable pub checkList : List ℕ → Checked

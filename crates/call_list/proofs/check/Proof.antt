@@ -43,8 +43,8 @@ slice-aggregate-record-answer-2 c = search needs
 record-answer-requires : tie.Need-record-answer-requires Inv-loop μ-loop
 record-answer-requires c κs = let turn = c .before .before .before in (omega arith, turn .loop .inv .4, turn .loop .inv .5)
 
-mul-refused : tie.Need-mul-refused Inv-loop μ-loop
-mul-refused c = omega arith
+mul-at : tie.Need-mul-at Inv-loop μ-loop
+mul-at c = omega arith
 
 refused-requires-2 : tie.Need-refused-requires-2 Inv-loop μ-loop
 refused-requires-2 c κs = search needs
@@ -104,8 +104,8 @@ loop-again c =
       held-next (turn .loop .households) (householdOf (a .list .now)) k _ (omega arith) (c .field-of2 .ensures) (turn .loop .inv .5),
     )
 
-mul-t6 : tie.Need-mul-t6 Inv-loop μ-loop
-mul-t6 c = omega arith
+mul-end : tie.Need-mul-end Inv-loop μ-loop
+mul-end c = omega arith
 
 returns-3 : tie.Need-returns-3 Inv-loop μ-loop
 returns-3 c =
@@ -126,7 +126,7 @@ check-spec =
     slice-aggregate-record-answer
     slice-aggregate-record-answer-2
     record-answer-requires
-    mul-refused
+    mul-at
     refused-requires-2
     returns-2
     field-of-requires
@@ -138,5 +138,5 @@ check-spec =
     add-k
     loop-less
     loop-again
-    mul-t6
+    mul-end
     returns-3)

@@ -1,12 +1,12 @@
-/* How many bytes a step of the display copies, by the message that it is given.
+/* How many bytes a step of the display copies, by the message that it is given, and a call of many settings.
  *
  *     cc -O2 -Iinclude -Wl,--wrap=memcpy,--wrap=memmove c/copies.c target/staticlib/libddcci_display.a -o copies && ./copies
  *
  * The linker sends every call of memcpy and memmove here, those of the library and those of this program
  * alike. This program copies the display too, to pass it by value and to keep what comes back: so each step
- * is made by one call through a pointer, once of the library's function and once of one with the same
- * parameters that copies nothing, and what is written is the difference. Copies of a few dozen bytes, which
- * the compiler makes by moves of its own, are not seen. */
+ * or call of many settings is made through a pointer, once of the library's function and once of one with
+ * the same parameters that copies nothing, and what is written is the difference. Copies of a few dozen
+ * bytes, which the compiler makes by moves of its own, are not seen. */
 #include <stdio.h>
 #include <string.h>
 
@@ -14,10 +14,15 @@
 
 typedef ddcci_display_stepped stepping(ddcci_display, const uint8_t *, size_t, uint8_t *, size_t,
                                        const uint8_t *, size_t, uint8_t *, size_t);
+typedef ddcci_display_changed setting(ddcci_display, const uint8_t *, size_t, const uint16_t *, size_t, uint8_t *,
+                                      size_t);
 
 static const uint8_t text[] = "(vcp(10 F4))";
 static uint8_t table[DDCCI_DISPLAY_TABLE_ROOM];
 static uint8_t out[DDCCI_OUTPUT_ROOM];
+static uint8_t codes[DDCCI_DISPLAY_MOST_SETTINGS];
+static uint16_t values[DDCCI_DISPLAY_MOST_SETTINGS];
+static uint8_t answers[DDCCI_DISPLAY_MOST_SETTINGS];
 static size_t copied;
 
 void *__real_memcpy(void *to, const void *from, size_t n);
@@ -58,6 +63,40 @@ static ddcci_display write_copies(const char *what, ddcci_display display, const
     return after.display;
 }
 
+static ddcci_display_changed set_nothing(ddcci_display display, const uint8_t *c, size_t cn, const uint16_t *v,
+                                         size_t vn, uint8_t *a, size_t an) {
+    ddcci_display_changed changed;
+    changed.answer = (uint8_t)(display.fragment_size + (c == a) + (v == values) + cn + vn + an);
+    return changed;
+}
+
+/* The one place that calls for many settings. */
+static __attribute__((noinline)) size_t copied_by_setting(setting *volatile set, const ddcci_display *display,
+                                                          ddcci_display_changed *after, size_t count, size_t room) {
+    copied = 0;
+    *after = set(*display, codes, count, values, count, answers, room);
+    return copied;
+}
+
+static ddcci_display write_setting(const char *what, ddcci_display display, size_t count, size_t room) {
+    static ddcci_display_changed after;
+    const size_t callers = copied_by_setting(set_nothing, &display, &after, count, room);
+    const size_t all = copied_by_setting(ddcci_display_set_all, &display, &after, count, room);
+    printf("%s: answer %u, %zu\n", what, after.answer, all - callers);
+    return after.display;
+}
+
+/* Brightness 37 to 100, as often as a call takes; then one setting; then one without room for its answer. */
+static ddcci_display write_settings(ddcci_display display) {
+    for (size_t i = 0; i < DDCCI_DISPLAY_MOST_SETTINGS; i++) {
+        codes[i] = 0x10;
+        values[i] = (uint16_t)(37 + i);
+    }
+    display = write_setting("64 settings in one call", display, DDCCI_DISPLAY_MOST_SETTINGS, sizeof answers);
+    display = write_setting("one setting in one call", display, 1, sizeof answers);
+    return write_setting("one setting, no room for its answer", display, 1, 0);
+}
+
 int main(void) {
     const ddcci_display_timing timing = {2, 13340, 6000};
     const ddcci_display_declaration brightness = {0x10, 1, 1, 0, 1, 100, 50};
@@ -86,5 +125,6 @@ int main(void) {
     display = write_copies("table write", display, write, sizeof write);
     display = write_copies("table read", display, read_table, sizeof read_table);
     display = write_copies("wrong checksum", display, refused, sizeof refused);
-    return display.settings.saved[0x10] == 100 && table[0] == 0x41 ? 0 : 1;
+    display = write_settings(display);
+    return display.settings.saved[0x10] == 100 && display.settings.present[0x10] == 37 && table[0] == 0x41 ? 0 : 1;
 }

@@ -1,5 +1,5 @@
 /* What a controller does with Paneknoll's display: start it, declare brightness, answer messages, learn what
- * they changed, and keep its profile. docs/CONTROLLER.md is the guide.
+ * they changed, take many settings in one call, and keep its profile. docs/CONTROLLER.md is the guide.
  *
  *     cc -Iinclude c/display.c target/staticlib/libddcci_display.a -o display && ./display
  */
@@ -52,6 +52,29 @@ static ddcci_display answer(ddcci_display display, const char *what, const uint8
     return step.display;
 }
 
+/* The settings that the tent sends at dawn, all in one call: brightness, contrast, which this display does not
+ * have, and brightness twice more, the first time above its maximum. Each one that was accepted goes to the
+ * panel, each other one is told; the answers may be looked at only if the call's own answer is 0. */
+static ddcci_display set_at_dawn(ddcci_display display) {
+    enum { SETTINGS = 4 };
+    static const uint8_t codes[SETTINGS] = {0x10, 0x12, 0x10, 0x10};
+    static const uint16_t values[SETTINGS] = {80, 50, 101, 90};
+    uint8_t answers[SETTINGS];
+    ddcci_display_changed set =
+        ddcci_display_set_all(display, codes, SETTINGS, values, SETTINGS, answers, sizeof answers);
+    printf("at dawn: answer %u, %s\n", set.answer, ddcci_answer_text(set.answer));
+    for (size_t i = 0; set.answer == DDCCI_ANSWER_DONE && i < SETTINGS; i++) {
+        if (answers[i] == DDCCI_ANSWER_DONE) {
+            printf("  code %02X was set to %u: give it to the panel\n", codes[i], values[i]);
+        } else {
+            printf("  code %02X to %u: refused %u, %s\n", codes[i], values[i], answers[i],
+                   ddcci_answer_text(answers[i]));
+        }
+    }
+    printf("  code 10 is %u, saved %u\n", set.display.settings.present[0x10], set.display.settings.saved[0x10]);
+    return set.display;
+}
+
 /* Writes the profile, and loads it with its value changed: a value above the maximum is refused. */
 static ddcci_display keep(ddcci_display display) {
     uint8_t profile[DDCCI_DISPLAY_LONGEST_PROFILE];
@@ -91,6 +114,7 @@ int main(void) {
     display = answer(display, "text at 0", read, sizeof read);
     display = answer(display, "text at 5", next, sizeof next);
     display = answer(display, "save", save, sizeof save);
+    display = set_at_dawn(display);
     display = keep(display);
     return display.settings.present[0x10] == 70 ? 0 : 1;
 }

@@ -1,6 +1,6 @@
 /* Both headers in one file that is C89, C17 and C++ alike: the meaning of every answer number, the version,
- * what an accepted message asked for, that a message with a byte behind it is refused, and call lists of the
- * greatest length and around it.
+ * what an accepted message asked for, that a message with a byte behind it is refused, many settings in one
+ * call, and call lists of the greatest length and around it.
  *
  *     cc -Iinclude c/headers.c target/staticlib/libddcci.a target/staticlib/libddcci_display.a -o headers && ./headers
  */
@@ -36,6 +36,34 @@ static void show_declared(ddcci_display display) {
     printf("\n");
 }
 
+/* Writes what a call of so many codes, values and answers came to: its answer, the brightness afterwards, the
+ * answers of the first setting and of the last that a call may have, and the byte behind. */
+static void show_set(ddcci_display display, size_t codes_length, size_t values_length, size_t answers_length) {
+    static uint8_t codes[DDCCI_DISPLAY_MOST_SETTINGS + 1], answers[DDCCI_DISPLAY_MOST_SETTINGS + 1];
+    static uint16_t values[DDCCI_DISPLAY_MOST_SETTINGS + 1];
+    ddcci_display_changed set;
+    size_t i;
+    for (i = 0; i <= DDCCI_DISPLAY_MOST_SETTINGS; i++) {
+        codes[i] = 0x10;
+        values[i] = (uint16_t)(38 + i); /* the last of 64 is 101, which is above the maximum */
+        answers[i] = 77;
+    }
+    set = ddcci_display_set_all(display, codes, codes_length, values, values_length, answers, answers_length);
+    printf("%lu codes, %lu values, ", (unsigned long)codes_length, (unsigned long)values_length);
+    printf("%lu answers: answer %u, ", (unsigned long)answers_length, set.answer);
+    printf("brightness %u; ", set.display.settings.present[0x10]);
+    printf("%u, %u, %u\n", answers[0], answers[DDCCI_DISPLAY_MOST_SETTINGS - 1], answers[DDCCI_DISPLAY_MOST_SETTINGS]);
+}
+
+static void show_settings(ddcci_display display) {
+    show_set(display, 64, 64, 65);
+    show_set(display, 1, 1, 64);
+    show_set(display, 0, 0, 0);
+    show_set(display, 65, 65, 65);
+    show_set(display, 64, 63, 64);
+    show_set(display, 65, 64, 64);
+}
+
 static void show_messages(void) {
     static const ddcci_display_timing timing = {2, 13340, 6000};
     static const ddcci_display_declaration brightness = {0x10, 1, 1, 0, 1, 100, 50};
@@ -56,6 +84,7 @@ static void show_messages(void) {
     display = show(display, out, 0);
     printf("brightness %u, list %u bytes\n", display.settings.present[0x10], display.table.length);
     show_declared(display);
+    show_settings(display);
 }
 
 /* A message of 39 bytes whose first 38 are a right one: with a byte more room than the longest it is refused. */

@@ -19,6 +19,9 @@ static uint8_t table[DDCCI_DISPLAY_TABLE_ROOM];
 static uint8_t out[DDCCI_OUTPUT_ROOM];
 static uint8_t profile[DDCCI_DISPLAY_LONGEST_PROFILE];
 static size_t profile_length;
+static uint8_t codes[DDCCI_DISPLAY_MOST_SETTINGS];
+static uint16_t values[DDCCI_DISPLAY_MOST_SETTINGS];
+static uint8_t answers[DDCCI_DISPLAY_MOST_SETTINGS];
 static volatile uint16_t declared;
 static const uint8_t *message;
 static size_t message_length;
@@ -41,6 +44,11 @@ static void declare(void) {
 static void step(void) {
     display = ddcci_display_step(display, text, strlen((const char *)text), table, sizeof table, message,
                                  message_length, out, sizeof out).display;
+}
+
+static void set_all(void) {
+    display = ddcci_display_set_all(display, codes, DDCCI_DISPLAY_MOST_SETTINGS, values,
+                                    DDCCI_DISPLAY_MOST_SETTINGS, answers, sizeof answers).display;
 }
 
 static void declared_count(void) {
@@ -98,9 +106,12 @@ int main(void) {
     write_step("step, text", read, sizeof read);
     write_step("step, table write", write, sizeof write);
     write_step("step, table read", read_table, sizeof read_table);
+    memset(codes, 0x10, sizeof codes);
+    memset(answers, 0xFF, sizeof answers);
+    write_depth("64 settings in one call", set_all);
     write_depth("declared count", declared_count);
     write_depth("next declared", next_declared);
     write_depth("write profile", write_profile);
     write_depth("load profile", load_profile);
-    return display.settings.saved[0x10] == 100 && table[0] == 0x41 ? 0 : 1;
+    return display.settings.saved[0x10] == 100 && answers[63] == DDCCI_ANSWER_DONE && table[0] == 0x41 ? 0 : 1;
 }

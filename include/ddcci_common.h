@@ -10,9 +10,9 @@
 #include <stdint.h>
 
 /* The version of the headers and of the archives that they go with. */
-#define DDCCI_VERSION "0.3.0"
+#define DDCCI_VERSION "0.4.0"
 #define DDCCI_VERSION_MAJOR 0
-#define DDCCI_VERSION_MINOR 3
+#define DDCCI_VERSION_MINOR 4
 #define DDCCI_VERSION_PATCH 0
 
 /* The bytes of the longest message of either direction, and the least output of a builder. */
@@ -41,7 +41,8 @@ enum ddcci_command {
     DDCCI_COMMAND_TABLE_FRAGMENT = 0xE4
 };
 
-/* The answer numbers of the papers' table. ddcci_answer_text says what each one means. */
+/* The answer numbers of the papers' table. ddcci_answer_text says what each one means. Of many settings in
+ * one call, 1 is fewer answers than codes, and 7 more than 64 settings, or unequally many codes and values. */
 enum ddcci_answer {
     DDCCI_ANSWER_DONE = 0,
     DDCCI_ANSWER_WRONG_SIZE = 1,
@@ -80,7 +81,7 @@ DDCCI_INLINE const char *ddcci_answer_text(int answer) {
     case DDCCI_ANSWER_DONE:
         return "done";
     case DDCCI_ANSWER_WRONG_SIZE:
-        return "a lent buffer has the wrong size (an output needs 38 bytes)";
+        return "a lent buffer has the wrong size (an output needs 38 bytes, the answers of settings one each)";
     case DDCCI_ANSWER_TOO_SHORT:
         return "the message is under 3 bytes";
     case DDCCI_ANSWER_WRONG_FIRST_BYTE:
@@ -92,7 +93,7 @@ DDCCI_INLINE const char *ddcci_answer_text(int answer) {
     case DDCCI_ANSWER_UNKNOWN_COMMAND:
         return "the command or the text's number is not in the table";
     case DDCCI_ANSWER_WRONG_FIELD:
-        return "the length or a field is wrong for the command";
+        return "the length or a field is wrong for the command, or a list of settings is too long or uneven";
     case DDCCI_ANSWER_CODE_NOT_ALLOWED:
         return "the VCP code is not allowed";
     case DDCCI_ANSWER_VALUE_TOO_LARGE:

@@ -2,14 +2,16 @@
  *
  * Link target/staticlib/libddcci_display.a, which is built for x86-64 Linux; it needs memcpy and memset.
  *
- * Every function is proved, for all inputs, to be safe, to end and to answer as document 01 says. None
- * allocates. Each answer is a number of `enum ddcci_answer`, and ddcci_answer_text says what it means
- * (ddcci_common.h). A refusal changes nothing, except that the null message is put into the output on 6, and
- * on 8 of a Table read. The slices of one call must not overlap.
+ * Every function is proved, for all inputs, to be safe, to end and to answer as the papers say: document 01,
+ * and document 02 for many settings in one call. None allocates. Each answer is a number of `enum
+ * ddcci_answer`, and ddcci_answer_text says what it means (ddcci_common.h). A refusal changes nothing, except
+ * that the null message is put into the output on 6, and on 8 of a Table read. The slices of one call must
+ * not overlap.
  *
  * The display is a struct by value: a call is given the display as the last one left it. A call takes stack,
  * here measured on x86-64 with the copies that its caller makes: a start and the two that look declared codes
- * up 1.8 KB, a declaration 7.0 KB, a step 4.7 KB, writing a profile 3.5 KB, loading one 7.0 KB.
+ * up 1.8 KB, a declaration 7.0 KB, a step and many settings in one call 4.7 KB each, writing a profile 3.5 KB,
+ * loading one 7.0 KB.
  *
  * Behind an I2C slave: its address is 37, and is not in the slices. One write is one message, from 51 on. A
  * read starts with 6E, which the reply and the null message begin with; any bytes may follow them. */
@@ -29,6 +31,8 @@ extern "C" {
 #define DDCCI_DISPLAY_MESSAGE_ROOM (DDCCI_LONGEST_MESSAGE + 1)
 /* The bytes of the longest profile: 7 for each code but F4. */
 #define DDCCI_DISPLAY_LONGEST_PROFILE 1785
+/* The most settings of one call of ddcci_display_set_all. */
+#define DDCCI_DISPLAY_MOST_SETTINGS 64
 /* What ddcci_display_next_declared returns where no code is left. */
 #define DDCCI_DISPLAY_NO_CODE 256
 /* The null message, as an initializer. A host that reads gets these bytes where no reply is due: where the
@@ -173,6 +177,17 @@ uint16_t ddcci_display_next_declared(ddcci_display display, uint16_t from);
 ddcci_display_stepped ddcci_display_step(ddcci_display display, const uint8_t *text, size_t text_length,
                                          uint8_t *table, size_t table_length, const uint8_t *message,
                                          size_t message_length, uint8_t *out, size_t out_length);
+
+/* Sets each code to the value at its place, one after the other, and writes the answer of each at its place:
+ * 0, 8 or 9. The display and the answers are what that many Set messages give, each stepped by itself: a
+ * setting that is refused is skipped and the next one tried, and where a kept code stands twice the later
+ * accepted value stands. The call's own answer is then 0, even if each setting was refused, and answers
+ * beyond the codes stay. It is 1 for fewer answers than codes, then 7 for more than
+ * DDCCI_DISPLAY_MOST_SETTINGS codes, or unequally many codes and values: nothing is tried, and no answer is
+ * written. The answers must overlap neither the codes nor the values. */
+ddcci_display_changed ddcci_display_set_all(ddcci_display display, const uint8_t *codes, size_t codes_length,
+                                            const uint16_t *values, size_t values_length,
+                                            uint8_t *answers, size_t answers_length);
 
 /* Writes the profile of the saved values, a record of 7 bytes for each code that is readable, writable and
  * kept; 1 where the output is too short. DDCCI_DISPLAY_LONGEST_PROFILE bytes are always enough. */

@@ -59,6 +59,13 @@ pub fn front(s: &[u8], n: usize) -> &[u8]
     if n < s.len() { &s[0..n] } else { s }
 }
 
+// Returns the first n of 16-bit numbers, or all where there are fewer.
+pub fn front_words(s: &[u16], n: usize) -> &[u16]
+    ensures { λ r. ⌜ now r ≡ take n (now (s .entry)) ⌝ }
+{
+    if s.len() <= n { s } else { &s[0..n] }
+}
+
 // Returns the first n bytes that are to be changed, or all where there are fewer.
 // It serves programs: of a part that is handed out to be changed, a contract says only what it holds at first.
 pub fn front_mut(s: &mut [u8], n: usize) -> &mut [u8]

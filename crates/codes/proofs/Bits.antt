@@ -1,6 +1,6 @@
 -- The bits of a word: of a half, a shift, a power of 2, a bitwise operation; and its trailing zeros, also after a low mask.
 use mathlib.Core.Path.{_≡_, refl, sym, ap, _∙_}
-use mathlib.Core.Bool.{Bool, true, false, cond, not, _||_}
+use mathlib.Core.Bool.{Bool, true, false, cond, not, _&&_, _||_}
 use mathlib.Core.Logic.{_⊎_, inl, inr, ⊎-elim}
 use Prim.Native.Nat.{ℕ, zero, suc, _+_, _-_, _*_, _/_, _%_, _^_, _≤_, _<_}
 use native.Mathlib.Nat.{mod-lt, div-one, le-of-suc-le-suc, mul-assoc, zero-mul, one-mul, add-sub-of-le, zero-div}
@@ -8,7 +8,7 @@ use native.Mathlib.Numerals.{one-add}
 use native.Mathlib.Omega.{arith}
 use lib.Dec.{eqb}
 use lib.Pow.{pow-add, pow-pos, pow-lt, shr-shr, shl-shr, shl-exact, shr-mod}
-use lib.Bits.{bitOr, or-shr, or-mod, or-add-and, bitXor, xor-shr, xor-mod, xor-add-and, bitAnd, and-high, shifted-even}
+use lib.Bits.{bitOr, or-shr, or-mod, or-add-and, bitXor, xor-shr, xor-mod, xor-add-and, bitAnd, and-shr, and-mod, and-high, shifted-even}
 use lib.Count.{trailingZeros, trailing-le}
 use borrow.Author.Tests.{eq-eqb, ne-eqb}
 use Rattle.codes.specs.Codes.{bit, bitSet, bitCleared, bitAssigned}
@@ -88,6 +88,9 @@ bit-of-operation op f shifted cut v00 v01 v10 v11 a b i =
     go x y (inl p) (inr q) = rw (p, q) v01
     go x y (inr p) (inl q) = rw (p, q) v10
     go x y (inr p) (inr q) = rw (p, q) v11
+
+pub bit-and : (a b i : ℕ) → bit (bitAnd a b) i ≡ bit a i && bit b i
+bit-and = bit-of-operation bitAnd (λ p q. p && q) and-shr and-mod refl refl refl refl
 
 pub bit-or : (a b i : ℕ) → bit (bitOr a b) i ≡ bit a i || bit b i
 bit-or = bit-of-operation bitOr (λ p q. p || q) or-shr or-mod refl refl refl refl

@@ -7,11 +7,12 @@ use Prim.Native.Nat.{ℕ, zero, suc, _+_, _-_, _/_, _%_, _≤_, _<_}
 use native.Mathlib.Nat.{eq-or-lt-of-le}
 use native.Mathlib.Omega.{arith}
 use lib.ListN.{getD, replicate}
+use lib.Bits.{bitAnd}
 use borrow.Author.Tests.{eq-eqb, ne-eqb}
-use Rattle.codes.specs.Codes.{allCodes, bit, member, noCodes, inserted, howMany, countOf, firstOf, nextOf}
-use Rattle.codes.specs.Statements.{NoneInside, AssignsOne, CountsNone, CountsInserted, NextIsLeast, NextIsNothing}
+use Rattle.codes.specs.Codes.{allCodes, bit, member, noCodes, inserted, inBoth, howMany, countOf, firstOf, nextOf}
+use Rattle.codes.specs.Statements.{NoneInside, AssignsOne, BothInside, CountsNone, CountsInserted, NextIsLeast, NextIsNothing}
 use Rattle.codes.specs.declared.Next.the-variants.{Code, Nothing}
-use Rattle.codes.proofs.Bits.{bit-none}
+use Rattle.codes.proofs.Bits.{bit-none, bit-and}
 use Rattle.codes.proofs.Counting.{howMany-none, howMany-change, howMany-le}
 use Rattle.codes.proofs.Members.{member-assigned}
 
@@ -27,6 +28,19 @@ none-inside c = ap (λ (w : ℕ). bit w (c % 64)) (repeated 4 (c / 64) 0) ∙ bi
 
 pub assigns-one : AssignsOne
 assigns-one = member-assigned
+
+-- each word of the set of both
+both-word : (a b : List ℕ) (i : ℕ) → i < 4 → getD (inBoth a b) i 0 ≡ bitAnd (getD a i 0) (getD b i 0)
+unfolding inBoth
+both-word a b zero h = refl
+both-word a b (suc zero) h = refl
+both-word a b (suc (suc zero)) h = refl
+both-word a b (suc (suc (suc zero))) h = refl
+both-word a b (suc (suc (suc (suc i)))) h = absurd (omega arith)
+
+pub both-inside : BothInside
+unfolding member
+both-inside a b c h = ap (λ (w : ℕ). bit w (c % 64)) (both-word a b (c / 64) (omega arith)) ∙ bit-and (getD a (c / 64) 0) (getD b (c / 64) 0) (c % 64)
 
 pub counts-none : CountsNone
 unfolding countOf

@@ -2,9 +2,10 @@
 -- code are read from them." A set of VCP codes is the list of its words.
 use Prim.Native.Nat.{ℕ, zero, suc, _+_, _-_, _/_, _%_, _^_}
 use mathlib.Core.Bool.{Bool, true, cond}
-use mathlib.Core.List.{List}
+use mathlib.Core.List.{List, [], _∷_}
 use lib.ListN.{getD, set, replicate}
 use lib.Dec.{eqb}
+use lib.Bits.{bitAnd}
 use Rattle.codes.specs.declared.Next.{Next}
 use Rattle.codes.specs.declared.Next.the-variants.{Code, Nothing}
 
@@ -43,6 +44,10 @@ assigned ws c inside = set ws (c / 64) (bitAssigned (getD ws (c / 64) 0) (c % 64
 -- the set with the code c in it
 abbrev pub inserted : List ℕ → ℕ → List ℕ
 inserted ws c = assigned ws c true
+
+-- the set of the codes that are in both, word by word
+unfoldable pub inBoth : (a b : List ℕ) → List ℕ
+inBoth a b = bitAnd (getD a 0 0) (getD b 0 0) ∷ bitAnd (getD a 1 0) (getD b 1 0) ∷ bitAnd (getD a 2 0) (getD b 2 0) ∷ bitAnd (getD a 3 0) (getD b 3 0) ∷ []
 
 -- how many of 0 to n - 1 p holds of
 unfoldable pub howMany : (ℕ → Bool) → ℕ → ℕ

@@ -1,11 +1,11 @@
 -- What the definitions of Codes.antt come to, in terms of membership alone. proofs/Theorems.antt proves each.
 use Prim.Native.Nat.{ℕ, _+_, _≤_, _<_}
 use mathlib.Core.Path.{_≡_}
-use mathlib.Core.Bool.{Bool, true, false, cond}
+use mathlib.Core.Bool.{Bool, true, false, cond, _&&_}
 use mathlib.Core.List.{List}
 use lib.ListN.{length}
 use lib.Dec.{eqb}
-use Rattle.codes.specs.Codes.{allCodes, member, noCodes, inserted, assigned, countOf, nextOf}
+use Rattle.codes.specs.Codes.{allCodes, member, noCodes, inserted, assigned, inBoth, countOf, nextOf}
 use Rattle.codes.specs.declared.Next.the-variants.{Code, Nothing}
 
 -- the set of no code has none
@@ -16,6 +16,10 @@ NoneInside = (c : ℕ) → member noCodes c ≡ false
 abbrev pub AssignsOne : Type 0
 AssignsOne = (ws : List ℕ) (c : ℕ) (inside : Bool) (d : ℕ) → length ws ≡ 4 → c < allCodes
     → member (assigned ws c inside) d ≡ cond (eqb d c) inside (member ws d)
+
+-- a code is in both sets exactly if it is in each
+abbrev pub BothInside : Type 0
+BothInside = (a b : List ℕ) (c : ℕ) → c < allCodes → member (inBoth a b) c ≡ member a c && member b c
 
 -- the set of no code counts 0, and a new code counts one more
 abbrev pub CountsNone : Type 0

@@ -1,7 +1,7 @@
 // A set of VCP codes 0 to 255 as four 64-bit words, one bit a code.
 ghost use mathlib.Core.Path.{_≡_};
 ghost use Prim.Native.Nat.{_<_};
-ghost use Rattle.codes.specs.Codes.{noCodes, member, bitAssigned, assigned, inserted, countOf, nextOf};
+ghost use Rattle.codes.specs.Codes.{noCodes, member, bitAssigned, assigned, inserted, inBoth, countOf, nextOf};
 ghost use Rattle.codes.specs.Words.{Weight, FirstBit};
 
 // The least code of a set from some number on.
@@ -19,13 +19,27 @@ pub fn none() -> [u64; 4]
     [0u64; 4]
 }
 
-// Returns whether the code is in the set.
-pub fn contains(words: [u64; 4], code: u8) -> bool
-    ensures { λ r. ⌜ r ≡ member words code ⌝ }
+// Returns whether the code is in a set that is lent. In a loop such a one is not copied for each code.
+pub fn contains_in(words: &[u64; 4], code: u8) -> bool
+    ensures { λ r. ⌜ r ≡ member (now (words .entry)) code ⌝ }
 {
     let i = (code / 64) as usize;
     let s = code % 64;
     (words[i] >> s) % 2 == 1
+}
+
+// Returns whether the code is in the set.
+pub fn contains(words: [u64; 4], code: u8) -> bool
+    ensures { λ r. ⌜ r ≡ member words code ⌝ }
+{
+    contains_in(&words, code)
+}
+
+// Returns the set of the codes that are in both.
+pub fn both(a: [u64; 4], b: [u64; 4]) -> [u64; 4]
+    ensures { λ r. ⌜ r ≡ inBoth a b ⌝ }
+{
+    [a[0] & b[0], a[1] & b[1], a[2] & b[2], a[3] & b[3]]
 }
 
 // Returns the word with bit s set or cleared.

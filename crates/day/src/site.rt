@@ -3,9 +3,11 @@ use buffers::front;
 use buffers::wide_word;
 use day_host::actions;
 use day_host::actions::Action;
+use day_host::morning;
 use day_host::texts;
 use day_line::Frame;
 use day_line::Line;
+use ddcci_display::ddcci_display_set_all;
 use ddcci_display::ddcci_display_step;
 use display_rules::Display;
 use display_rules::limits::TABLE_ROOM;
@@ -65,6 +67,18 @@ pub(crate) fn deliver(mut s: Site, message: Frame) -> Site {
     s.reply = reply;
     s.answer = stepped.answer;
     s
+}
+
+// Returns the site after the tent's settings of the morning, in one call, with whether what is wanted came of them.
+pub(crate) fn set_all(mut s: Site) -> Site {
+    let before = s.display;
+    let codes = morning::codes();
+    let values = morning::values();
+    let mut answers = [morning::NOT_ANSWERED; morning::ANSWERS_ROOM];
+    let changed = ddcci_display_set_all(before, &codes, &values, &mut answers);
+    let after = changed.display;
+    s.display = after;
+    also(s, morning::judged(changed.answer, answers))
 }
 
 // Returns the site after an action of the tent, with whether what is wanted came of it.

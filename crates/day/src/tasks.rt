@@ -2,7 +2,6 @@
 use crate::site;
 use crate::site::Site;
 use day_host::actions::Action;
-use day_host::declared::FULL;
 use day_host::texts;
 use day_host::trial;
 use day_host::trial::Left;
@@ -10,8 +9,6 @@ use day_host::trial::Profile;
 use day_host::writes;
 use day_reading::Reading;
 use day_report::messages::BRIGHTNESS;
-use day_report::messages::DEGAUSS;
-use day_report::messages::INPUT;
 use message_rules::TextKind;
 use message_rules::answer;
 
@@ -41,17 +38,10 @@ pub(crate) fn write_list(mut s: Site, list: &[u8]) -> Site {
 
 // ---- 05:30, brightness and input
 
-// Returns the site after three codes were set: brightness, input, and the code that acts once.
-// Brightness is also set to a value that is refused, and read back.
+// Returns the site after the tent's settings, of which one is refused, and after brightness was read back.
 pub(crate) fn adjust(mut s: Site) -> Site {
-    s = site::act(s, Action::Set(BRIGHTNESS, 70, answer::DONE));
-    s = site::act(
-        s,
-        Action::Set(BRIGHTNESS, FULL + 1, answer::VALUE_TOO_LARGE),
-    );
-    s = site::act(s, Action::Get(BRIGHTNESS, 70));
-    s = site::act(s, Action::Set(INPUT, 15, answer::DONE));
-    site::act(s, Action::Set(DEGAUSS, 1, answer::DONE))
+    s = site::set_all(s);
+    site::act(s, Action::Get(BRIGHTNESS, 70))
 }
 
 // ---- 06:00 and 12:00, the texts over the line

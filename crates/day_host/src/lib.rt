@@ -3,6 +3,7 @@
 // What is written for people has no contract; these functions are proved safe and ending.
 pub mod actions;
 pub mod declared;
+pub mod morning;
 mod records;
 mod requests;
 pub mod texts;

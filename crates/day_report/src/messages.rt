@@ -60,6 +60,12 @@ pub fn written(writes: usize, messages: u64, stored: usize, same: bool) {
     show::compared(OUT, b"beside the tent's list: ", same);
 }
 
+// Writes how many settings went in one call, and its answer.
+pub fn settings(count: usize, answer: u8) {
+    line(b"    # settings in one call", &[count as u64]);
+    show::answered(OUT, b": ", answer);
+}
+
 // Writes what came of a Set.
 pub fn set(code: u8, value: u16, answer: u8) {
     value_of(b"    Set ", code, value);

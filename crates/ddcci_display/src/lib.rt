@@ -6,6 +6,7 @@ ghost use Rattle.codes.specs.Codes.{countOf, nextOf};
 ghost use Rattle.display_rules.specs.State.{start, declare};
 ghost use Rattle.display_rules.specs.Step.{step, leftBy};
 ghost use Rattle.profile_rules.specs.Profile.{writeProfile, loadProfile};
+ghost use Rattle.set_all_rules.specs.SetAll.{displaySetAll};
 ghost use Rattle.display_asked.specs.Asked.{askedOf};
 ghost use Rattle.ddcci_display.specs.Numbers.{codeNumber, loadedNumbers};
 use codes::Next;
@@ -107,6 +108,36 @@ pub extern "C" fn ddcci_display_step(
         Pending::Refused(answer, length) => {
             return changes::answered(d, answer, length);
         }
+    }
+}
+
+// Sets each code to its value, one after the other, and writes the answer of each at its place.
+// Returns the display afterwards and the call's own answer.
+// With fewer answers than codes that is 1, then with over 64 or unequally many codes and values 7: nothing is tried then.
+// The timing's numbers are read and stored, so that the arrays between them are copied once (docs/PROVING-NOTES.md).
+#[no_mangle]
+pub extern "C" fn ddcci_display_set_all(
+    mut d: Display,
+    codes: &[u8],
+    values: &[u16],
+    answers: &mut [u8],
+) -> Changed
+    ensures { λ r. ⌜ record { changed = r; answers = now (answers .exit) } ≡ displaySetAll d (now (codes .entry)) (now (values .entry)) (now (answers .entry)) ⌝ }
+{
+    let mut settings = d.settings;
+    let horizontal = settings.horizontal;
+    let vertical = settings.vertical;
+    let status = settings.status;
+    let all = set_all::set_all(settings, codes, values, answers);
+    let present = all.present;
+    settings.horizontal = horizontal;
+    settings.vertical = vertical;
+    settings.present = present;
+    settings.status = status;
+    d.settings = settings;
+    Changed {
+        display: d,
+        answer: all.answer,
     }
 }
 

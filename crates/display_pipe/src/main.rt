@@ -1,8 +1,11 @@
 // A display on standard input and output. The format of its records stands in docs/DISPLAY-PIPE.md.
 use buffers::front;
 use buffers::front_mut;
+use buffers::front_words;
+use buffers::least;
 use buffers::octet;
 use buffers::wide_word;
+use ddcci_display::ddcci_display_set_all;
 use ddcci_display::ddcci_display_step;
 use display_rules::Display;
 use display_rules::limits::TABLE_ROOM;
@@ -31,6 +34,12 @@ const LONGEST_PROFILE: usize = 1785;
 // The longest body of a record.
 const LONGEST_BODY: usize = 65535;
 
+// The bytes of a setting in a record that sets many: its code and its value.
+const SETTING_SIZE: usize = 3;
+
+// The most settings of a body.
+const MOST_SENT: usize = LONGEST_BODY / SETTING_SIZE;
+
 // The kinds of a record.
 const START: u8 = 1;
 
@@ -41,6 +50,8 @@ const MESSAGE: u8 = 3;
 const WRITE_PROFILE: u8 = 4;
 
 const LOAD_PROFILE: u8 = 5;
+
+const SET_MANY: u8 = 6;
 
 // What stops the program: the end of the input, or a malformed record.
 const NONE: u8 = 0;
@@ -57,7 +68,9 @@ const WRONG_FLAG: u8 = 5;
 
 const PROFILE_BODY: u8 = 6;
 
-const WRONG_KIND: u8 = 7;
+const CUT_SETTING: u8 = 7;
+
+const WRONG_KIND: u8 = 8;
 
 // The display that a record leaves, and whether to go on.
 struct Obeyed {
@@ -96,8 +109,9 @@ fn write_fault(fault: u8) {
         WRONG_DECLARE => say(b": a declare record has 9 bytes\n"),
         WRONG_FLAG => say(b": readable, writable and continuous are 0 or 1\n"),
         PROFILE_BODY => say(b": a record that asks for the profile has no body\n"),
+        CUT_SETTING => say(b": a record that sets many has 3 bytes a setting\n"),
         _ => say(
-            b": the kind of a record is 1 (start), 2 (declare), 3 (message), 4 (write the profile) or 5 (load a profile)\n",
+            b": the kind of a record is 1 (start), 2 (declare), 3 (message), 4 (write the profile), 5 (load a profile) or 6 (set many)\n",
         ),
     }
 }
@@ -174,6 +188,14 @@ fn read_declare(n: usize, body: &mut [u8]) -> u8 {
     CUT
 }
 
+// Reads the body of a record that sets many.
+fn read_settings(n: usize, body: &mut [u8]) -> u8 {
+    if n % SETTING_SIZE == 0 {
+        return read(n, body);
+    }
+    CUT_SETTING
+}
+
 // Reads the body of a record into the buffer `body`.
 // Returns what is wrong with the record.
 fn read_body(kind: u8, n: usize, text: &mut [u8], body: &mut [u8]) -> u8 {
@@ -183,6 +205,7 @@ fn read_body(kind: u8, n: usize, text: &mut [u8], body: &mut [u8]) -> u8 {
         MESSAGE => read(n, body),
         WRITE_PROFILE => { if n == 0 { NONE } else { PROFILE_BODY } }
         LOAD_PROFILE => read(n, body),
+        SET_MANY => read_settings(n, body),
         _ => WRONG_KIND,
     }
 }
@@ -291,12 +314,49 @@ fn load_profile(mut d: Display, bytes: &[u8]) -> Obeyed {
     }
 }
 
+// Takes the settings of a body apart: the code of each into one list, its value into the other.
+// Returns how many they are, where both lists have room for them.
+fn take_apart(body: &[u8], codes: &mut [u8], values: &mut [u16]) -> usize {
+    let room = least(codes.len(), values.len());
+    let n = least(body.len() / SETTING_SIZE, room);
+    let mut k: usize = 0;
+    while k < n {
+        codes[k] = octet(body, k * SETTING_SIZE);
+        values[k] = word(body, k * SETTING_SIZE + 1);
+        k += 1;
+    }
+    n
+}
+
+// Answers a record that sets many, where the call was answered so. A refused one has no answers to its settings.
+fn write_settings(answer: u8, answers: &[u8]) -> bool {
+    if answer == DONE {
+        return write_answer(answer, answers);
+    }
+    write_answer(answer, b"")
+}
+
+// Sets many codes, in the order of the body. The room for answers is enough for every body.
+fn set_many(d: Display, body: &[u8]) -> Obeyed {
+    let mut codes = [0u8; MOST_SENT];
+    let mut values = [0u16; MOST_SENT];
+    let mut answers = [0u8; MOST_SENT];
+    let n = take_apart(body, &mut codes, &mut values);
+    let set = ddcci_display_set_all(d, front(&codes, n), front_words(&values, n), &mut answers);
+    let display = set.display;
+    Obeyed {
+        display: display,
+        go: write_settings(set.answer, front(&answers, n)),
+    }
+}
+
 // Obeys a record that is no message.
 fn obey(d: Display, kind: u8, n: usize, text: &[u8], body: &[u8]) -> Obeyed {
     match kind {
         START => start(body, front(text, text_length(n))),
         DECLARE => declare(d, declaration(body)),
         WRITE_PROFILE => write_profile(d),
+        SET_MANY => set_many(d, front(body, n)),
         _ => load_profile(d, front(body, n)),
     }
 }

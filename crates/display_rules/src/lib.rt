@@ -38,7 +38,7 @@ pub struct Display {
     pub size: u16,
 }
 
-// What a start and declaring return.
+// What a start, declaring and many settings in one call return.
 #[repr(C)]
 pub struct Changed {
     // The display afterwards.

@@ -1,6 +1,7 @@
 // Runs the rows of standard input on displays, and writes one line a group.
 // The form of the input stands at its head, in the file stdin.
 mod bench;
+mod calls;
 mod line;
 
 use bench::Bench;
@@ -23,8 +24,8 @@ use settings_rules::Timing;
 // One byte more than the longest input.
 const INPUT_ROOM: usize = 32768;
 
-// The most pairs of digits on a line.
-const LINE_ROOM: usize = 96;
+// The most pairs of digits on a line: 65 settings with their answers, and the numbers beside them.
+const LINE_ROOM: usize = 272;
 
 // The bytes of a start and of a declaration.
 const FIELDS: usize = 9;
@@ -182,6 +183,15 @@ fn whole(mut b: Bench, due: &[u8]) -> Bench {
     count(b, good)
 }
 
+// Returns the bench after many settings in one call; the answers that it writes are due behind its own.
+fn call(b: Bench, given: &[u8], due: &[u8]) -> Bench {
+    let called = calls::call(b, given);
+    let bench = called.bench;
+    let answers = called.answers;
+    let good = called.answer == answer_due(due) && calls::wrote(answers, behind(due, 1));
+    count(bench, good)
+}
+
 // Returns the bench after a row, which is told by the first letter of its word.
 fn run_row(b: Bench, letter: u8, given: &[u8], due: &[u8]) -> Bench {
     match letter {
@@ -193,6 +203,7 @@ fn run_row(b: Bench, letter: u8, given: &[u8], due: &[u8]) -> Bench {
         b'w' => whole(b, due),
         b'p' => write_profile(b, given, due),
         b'l' => load_profile(b, given, due),
+        b'c' => call(b, given, due),
         _ => count(b, false),
     }
 }

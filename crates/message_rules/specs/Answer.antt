@@ -5,7 +5,8 @@ use Prim.Native.Nat.{ℕ}
 abbrev pub done : ℕ
 done = 0
 
--- lent output under 38 bytes; transfer buffer, table buffer or capabilities string of a wrong size; profile output too short
+-- lent output under 38 bytes; transfer buffer, table buffer or capabilities string of a wrong size; profile output too short;
+-- fewer answers lent than codes to set (document 02, K1)
 abbrev pub wrongSize : ℕ
 wrongSize = 1
 
@@ -29,7 +30,8 @@ wrongChecksum = 5
 abbrev pub unknownCommand : ℕ
 unknownCommand = 6
 
--- n or a field wrong for the command; builder given such a field
+-- n or a field wrong for the command; builder given such a field; over 64 settings in one call, or unequally many codes and
+-- values (document 02, K1)
 abbrev pub wrongField : ℕ
 wrongField = 7
 

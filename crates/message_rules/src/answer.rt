@@ -2,7 +2,7 @@
 // The call is done.
 pub const DONE: u8 = 0;
 
-// A lent output has under 38 bytes, or another lent slice has a wrong length.
+// A lent output has under 38 bytes, or another lent slice has a wrong length: so have fewer answers than codes to set.
 pub const WRONG_SIZE: u8 = 1;
 
 // A message has under 3 bytes.
@@ -21,6 +21,7 @@ pub const WRONG_CHECKSUM: u8 = 5;
 pub const UNKNOWN_COMMAND: u8 = 6;
 
 // A body's length or a field is wrong for the command, or a builder was given such a field.
+// Or a call has over 64 settings, or unequally many codes and values.
 pub const WRONG_FIELD: u8 = 7;
 
 // The code is not allowed here.

@@ -5,17 +5,14 @@ use mathlib.Core.List.{List}
 use Prim.Native.Nat.{ℕ, zero, suc, _-_, _/_, _%_, _<_}
 use native.Mathlib.Omega.{arith}
 use lib.ListN.{getD}
-use lib.Bits.{bitAnd, and-shr, and-mod, bitOr}
+use lib.Bits.{bitAnd, bitOr}
 use Rattle.codes.specs.Codes.{allCodes, bit, member}
-use Rattle.codes.proofs.Bits.{bit-of-operation, bit-or, bit-xor}
+use Rattle.codes.proofs.Bits.{bit-and, bit-or, bit-xor}
 use Rattle.settings_rules.specs.Entries.{entryOf}
 use Rattle.settings_rules.specs.declared.Settings.{Settings}
 use Rattle.profile_rules.specs.Profile.{inProfile, profileCode, profileCodes, codesFrom}
 use Rattle.profile_rules.proofs.Rising.{rising-ext}
 use Rattle.profile.specs.Parts.{profileWord, profileWords}
-
-bit-and : (a b i : ℕ) → bit (bitAnd a b) i ≡ bit a i && bit b i
-bit-and = bit-of-operation bitAnd (λ p q. p && q) and-shr and-mod refl refl refl refl
 
 -- the bits of a word so made
 bit-kept : (d r w m : List ℕ) (i j : ℕ)

@@ -160,7 +160,7 @@ pub fn next_declared(s: Settings, from: u16) -> Next
 }
 
 // Returns the answer to a Set, from what is known of its code and whether the value is above the maximum.
-fn set_answer(declared: bool, code: u8, writable: bool, above: bool) -> u8
+pub fn set_answer(declared: bool, code: u8, writable: bool, above: bool) -> u8
     ensures { λ r. ⌜ r ≡ answerToSet declared code writable above ⌝ }
 {
     if declared {

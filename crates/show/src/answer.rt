@@ -37,7 +37,7 @@ pub fn meaning(to: i32, n: u8) {
         length wrong            \
         check byte wrong        \
         command unknown         \
-        field wrong             \
+        field or list wrong     \
         code not allowed        \
         value above the maximum \
         not the fragment wanted \

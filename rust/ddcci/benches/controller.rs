@@ -1,4 +1,5 @@
-//! What a step of the display costs beside time: the bytes that it copies, and the stack that a call takes.
+//! What a step of the display and a call of many settings cost beside time: the bytes that they copy, and the stack
+//! that a call takes.
 //!
 //! `cargo bench --bench controller` prints both. No test holds them: they are the compiler's, and change with it.
 #[path = "../tests/common/mod.rs"]
@@ -34,12 +35,17 @@ fn record(kind: u8, body: &[u8]) -> Vec<u8> {
     [&[kind], length.as_slice(), body].concat()
 }
 
+/// The record of 64 settings: brightness 37 to 100.
+fn settings() -> Vec<u8> {
+    record(6, &(37..=100).flat_map(|value| [0x10, value, 0]).collect::<Vec<u8>>())
+}
+
 /// Returns the bytes that `display_pipe` copies from its start to its end, for a display with a code and so many
-/// equal messages.
-fn copied(counter: &Path, message: &[u8], times: usize) -> usize {
+/// equal records.
+fn copied(counter: &Path, same: &[u8], times: usize) -> usize {
     let start = record(1, b"\x02\x1C\x34\x70\x17\x05\x00(vcp(10 F4))");
     let declare = record(2, &[0x10, 1, 1, 0, 1, 100, 0, 50, 0]);
-    let input = [start, declare, record(3, message).repeat(times)].concat();
+    let input = [start, declare, same.repeat(times)].concat();
     let mut child = Command::new(program("display_pipe"))
         .env("LD_PRELOAD", counter)
         .stdin(Stdio::piped())
@@ -54,15 +60,16 @@ fn copied(counter: &Path, message: &[u8], times: usize) -> usize {
 }
 
 fn main() {
-    println!("bytes given to memcpy and memmove inside ddcci_display_step:");
+    println!("bytes given to memcpy and memmove inside ddcci_display_step, and inside ddcci_display_set_all:");
     let wrapped = compiled_as(C17, &c_file("copies.c"), &[DISPLAY, "-Wl,--wrap=memcpy,--wrap=memmove"]);
     print!("{}", written_by(&wrapped));
 
     const TIMES: usize = 10;
     println!("\nthe same in display_pipe, from reading a record to writing its answer:");
     let counter = compiled_as(C17, &c_file("counted.c"), &["-shared", "-fPIC"]);
-    for (what, message) in MESSAGES {
-        println!("{what}: {}", (copied(&counter, message, TIMES) - copied(&counter, message, 0)) / TIMES);
+    let messages = MESSAGES.map(|(what, message)| (what, record(3, message)));
+    for (what, same) in messages.into_iter().chain([("64 settings in one record", settings())]) {
+        println!("{what}: {}", (copied(&counter, &same, TIMES) - copied(&counter, &same, 0)) / TIMES);
     }
 
     println!("\nbytes of stack of a call, with its caller's copies:");

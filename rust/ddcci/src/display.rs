@@ -3,11 +3,14 @@ use core::fmt;
 use core::ops::Range;
 
 use crate::raw;
-use crate::refusal::{Refusal, RefusedAt};
+use crate::refusal::{Answer, Refusal, RefusedAt};
 use crate::transfer::TextKind;
 
 /// The bytes of a table's buffer.
 pub const TABLE_ROOM: usize = 1024;
+
+/// The most settings of one call of [`Display::set_all`].
+pub const MOST_SETTINGS: usize = 64;
 
 /// The bytes of the longest profile: 7 for each code but F4.
 pub const LONGEST_PROFILE: usize = 1785;
@@ -223,6 +226,58 @@ impl Display {
             _ => None,
         };
         Step { answer: Refusal::check(r.answer), length: r.length, found }
+    }
+
+    /// Sets each code to the value at its place, one after the other, and writes what each came to into the answers.
+    ///
+    /// The display and the answers are what that many Set messages give, each stepped by itself. A setting that is
+    /// refused, with 8 or 9, is skipped and the next one is tried; the call is `Ok` even if all are. A code may stand
+    /// twice: of a kept code the later value that is accepted stands. Answers beyond the codes stay as they were.
+    ///
+    /// Fewer answers than codes are refused with 1, then more than [`MOST_SETTINGS`] codes, or unequally many codes
+    /// and values, with 7. Nothing is tried then, and no answer is written: the answers tell something only after
+    /// `Ok`, and only those of the codes.
+    ///
+    /// ```
+    /// use ddcci::{Answer, Refusal};
+    /// # use ddcci::{Declaration, Display, Reply, Request, Timing, OUTPUT_ROOM, TABLE_ROOM};
+    /// # let mut display = Display::start(Timing::default(), b"", 32)?;
+    /// # let (code, readable, writable, kind, continuous, maximum, present) = (0x10, true, true, 0, true, 100, 50);
+    /// # display.declare(Declaration { code, readable, writable, kind, continuous, maximum, present })?;
+    ///
+    /// let codes = [0x10, 0x10, 0x10]; // brightness, which is at most 100
+    /// let values = [70, 101, 80];
+    /// let mut answers = [Answer::default(); 3];
+    /// display.set_all(&codes, &values, &mut answers)?;
+    /// assert_eq!(answers.map(Answer::result), [Ok(()), Err(Refusal::ValueTooLarge), Ok(())]);
+    ///
+    /// let get = Request::Get { code: 0x10 }.to_bytes()?;
+    /// # let (mut table, mut out) = ([0; TABLE_ROOM], [0; OUTPUT_ROOM]);
+    /// let step = display.step(b"", &mut table, &get, &mut out);
+    /// let later = Reply::Value { result: 0, code: 0x10, kind: 0, max: 100, present: 80 };
+    /// assert_eq!(Reply::read(&out[..step.length]), Ok(later));
+    ///
+    /// assert_eq!(display.set_all(&codes, &values, &mut answers[..2]), Err(Refusal::WrongSize));
+    /// assert_eq!(display.set_all(&codes, &values[..2], &mut answers), Err(Refusal::WrongField));
+    /// # Ok::<(), ddcci::Refusal>(())
+    /// ```
+    #[inline]
+    pub fn set_all(&mut self, codes: &[u8], values: &[u16], answers: &mut [Answer]) -> Result<(), Refusal> {
+        // SAFETY: each pointer and its length are those of one slice; the answers, which have the layout of their bytes,
+        // are borrowed for writing and thus overlap neither the codes nor the values.
+        let r = unsafe {
+            raw::ddcci_display_set_all(
+                self.0,
+                codes.as_ptr(),
+                codes.len(),
+                values.as_ptr(),
+                values.len(),
+                answers.as_mut_ptr(),
+                answers.len(),
+            )
+        };
+        self.0 = r.display;
+        Refusal::check(r.answer)
     }
 
     /// Writes the profile of the saved values to the start of the output, and returns its length: 7 bytes for each code

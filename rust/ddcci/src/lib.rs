@@ -1,7 +1,8 @@
 //! Safe bindings of Paneknoll, a verified implementation of both ends of VESA DDC/CI 1.1.
 //!
 //! Every call below goes to a function that is proved, for all inputs, to be safe, to end and to answer as the papers
-//! say: document 01, and document 02 for call lists. None of them panics on any bytes, and none allocates.
+//! say: document 01, and document 02 for call lists and for many settings in one call. None of them panics on any
+//! bytes, and none allocates.
 //!
 //! The crate is `no_std` without its feature `std`, which is on by default and adds only the change of a refusal into
 //! a [`std::io::Error`]. The archives that it links are built for x86-64 Linux.
@@ -18,7 +19,7 @@ mod transfer;
 
 pub use call_list::{CallList, Entry, LONGEST_CALL_LIST, MOST_ENTRIES};
 pub use capabilities::{read_capabilities_into, Capabilities, Node, Nodes, MOST_NODES};
-pub use display::{Asked, Declaration, Display, Step, Timing, LONGEST_PROFILE, TABLE_ROOM};
+pub use display::{Asked, Declaration, Display, Step, Timing, LONGEST_PROFILE, MOST_SETTINGS, TABLE_ROOM};
 pub use message::{checksum, Message, Reply, Request, MOST_FRAGMENT, MOST_WRITTEN, OUTPUT_ROOM};
-pub use refusal::{Refusal, RefusedAt};
+pub use refusal::{Answer, Refusal, RefusedAt};
 pub use transfer::{State, TextKind, Transfer, Unfinished};

@@ -8,6 +8,7 @@
 //! may be read, and written where the pointer is `*mut`; a slice that is written overlaps no other slice of the call.
 use crate::call_list::Entry;
 use crate::display::{Declaration, Timing};
+use crate::refusal::Answer;
 
 #[repr(C)]
 #[derive(Clone, Copy)]
@@ -253,6 +254,15 @@ extern "C" {
         out: *mut u8,
         out_length: usize,
     ) -> DisplayStepped;
+    pub fn ddcci_display_set_all(
+        display: Display,
+        codes: *const u8,
+        codes_length: usize,
+        values: *const u16,
+        values_length: usize,
+        answers: *mut Answer,
+        answers_length: usize,
+    ) -> DisplayChanged;
     pub fn ddcci_display_asked(answer: u8, message: *const u8, message_length: usize) -> DisplayAsked;
     pub fn ddcci_display_write_profile(display: Display, out: *mut u8, out_length: usize) -> Built;
     pub fn ddcci_display_load_profile(display: Display, profile: *const u8, profile_length: usize) -> DisplayLoaded;
@@ -276,6 +286,7 @@ const _: () = {
     has_size::<TextState>(6);
     has_size::<Display>(1720);
     has_size::<Declaration>(10);
+    has_size::<Answer>(1);
     has_size::<DisplayChanged>(1728);
     has_size::<DisplayStepped>(1760);
     has_size::<DisplayLoaded>(1736);

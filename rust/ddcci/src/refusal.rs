@@ -32,8 +32,8 @@ macro_rules! refusals {
 }
 
 refusals! {
-    /// A lent buffer has the wrong size.
-    WrongSize = 1, "a lent buffer has the wrong size (an output needs 38 bytes)";
+    /// A lent buffer has the wrong size; of many settings, there are fewer answers than codes.
+    WrongSize = 1, "a lent buffer has the wrong size (an output needs 38 bytes, the answers of settings one each)";
     /// A message is under 3 bytes.
     TooShort = 2, "the message is under 3 bytes";
     /// The first byte of a message is wrong.
@@ -44,8 +44,8 @@ refusals! {
     WrongChecksum = 5, "the checksum is wrong: ask again";
     /// The command, or in C the number of a text, is not in the table.
     UnknownCommand = 6, "the command or the text's number is not in the table";
-    /// The length or a field is wrong for the command.
-    WrongField = 7, "the length or a field is wrong for the command";
+    /// The length or a field is wrong for the command; or over 64 settings are given, or unequally many codes and values.
+    WrongField = 7, "the length or a field is wrong for the command, or a list of settings is too long or uneven";
     /// The code is not allowed.
     CodeNotAllowed = 8, "the VCP code is not allowed";
     /// A value is above the maximum.
@@ -119,6 +119,24 @@ impl core::error::Error for Refusal {}
 impl From<Refusal> for std::io::Error {
     fn from(refusal: Refusal) -> std::io::Error {
         std::io::Error::new(std::io::ErrorKind::InvalidData, refusal)
+    }
+}
+
+/// What one of many settings came to, as [`Display::set_all`](crate::Display::set_all) answers it: done, or refused
+/// with 8 or 9. One that no call has written says nothing: it starts as done.
+#[repr(transparent)]
+#[derive(Debug, Clone, Copy, PartialEq, Eq, Default)]
+pub struct Answer(u8);
+
+impl Answer {
+    /// Returns the number of the papers' table: 0, 8 or 9.
+    pub fn number(self) -> u8 {
+        self.0
+    }
+
+    /// Returns `Ok` if the setting was done, else why it was refused.
+    pub fn result(self) -> Result<(), Refusal> {
+        Refusal::check(self.0)
     }
 }
 

@@ -36,6 +36,12 @@ text at 5: answer 0, done; a read gets 6E 88 E3 00 05 31 30 20 46 34 03
   5 bytes from 5 of text 0
 save: answer 0, done; a read gets 6E 80 BE
   saved: keep the profile
+at dawn: answer 0, done
+  code 10 was set to 80: give it to the panel
+  code 12 to 50: refused 8, the VCP code is not allowed
+  code 10 to 101: refused 9, the value is above the maximum
+  code 10 was set to 90: give it to the panel
+  code 10 is 90, saved 100
 profile: answer 0, bytes 05 00 01 00 10 64 00
 loaded with 101: answer 9 at 0
 loaded with 70: answer 0 at 7
@@ -114,7 +120,7 @@ fn the_controller_answers_an_i2c_host() {
 /// The programs that count run by the commands that they show. Their numbers are the compiler's, and no test holds them.
 #[test]
 fn the_counters_run() {
-    for (name, lines) in [("copies", 11), ("stack", 12)] {
+    for (name, lines) in [("copies", 14), ("stack", 13)] {
         assert_eq!(documented(name).lines().count(), lines, "{name}");
     }
 }
@@ -133,6 +139,12 @@ answer 0: command E2, code F4, value 0; read: 0, E2, F4, 0
 answer 2: command 00, code 00, value 0; read: 2, 00, 00, 0
 brightness 70, list 3 bytes
 2 codes declared: 01 10
+64 codes, 64 values, 65 answers: answer 0, brightness 100; 0, 9, 77
+1 codes, 1 values, 64 answers: answer 0, brightness 38; 0, 77, 77
+0 codes, 0 values, 0 answers: answer 0, brightness 70; 77, 77, 77
+65 codes, 65 values, 65 answers: answer 7, brightness 70; 77, 77, 77
+64 codes, 63 values, 64 answers: answer 7, brightness 70; 77, 77, 77
+65 codes, 64 values, 64 answers: answer 1, brightness 70; 77, 77, 77
 39 bytes: answer 4; cut to 38: answer 0
 1020 bytes: answer 0, 85 entries, position 1020; household 84: answer 0, 1, 84, 0; last token 184
 1024 bytes: answer 17, 0 entries, position 1020; household 84: answer 17, 0, 0, 1020; last token 0

@@ -31,6 +31,33 @@ fn the_example_of_a_transfer() {
     assert_eq!(written_by(&example("transfer")), format!("{tree}in 8 exchanges\n"));
 }
 
+/// README and the guides, by their paths.
+fn papers() -> Vec<PathBuf> {
+    let mut papers = vec![repository().join("README.md")];
+    for folder in ["docs", "docs/changes"] {
+        let files = fs::read_dir(repository().join(folder)).unwrap().map(|entry| entry.unwrap().path());
+        papers.extend(files.filter(|path| path.extension().is_some_and(|extension| extension == "md")));
+    }
+    papers
+}
+
+#[test]
+fn the_links_lead_to_files() {
+    let mut links = 0;
+    for paper in papers() {
+        let text = fs::read_to_string(&paper).unwrap();
+        for link in text.split("](").skip(1).filter_map(|rest| rest.split(')').next()) {
+            let file = link.split('#').next().unwrap_or("");
+            if file.is_empty() || file.contains("://") {
+                continue;
+            }
+            assert!(paper.with_file_name(file).exists(), "{} links {link}, which is not there", paper.display());
+            links += 1;
+        }
+    }
+    assert!(links > 20, "only {links} links were found");
+}
+
 /// A folder of its own with what commands need of the repository.
 fn folder(name: &str) -> PathBuf {
     let folder = Path::new(env!("CARGO_TARGET_TMPDIR")).join(name);
@@ -125,18 +152,24 @@ fn the_vectors_hold() {
     }
 }
 
-/// The example of docs/DISPLAY-PIPE.md, with the bytes that its text names.
+/// The examples of docs/DISPLAY-PIPE.md, with the bytes that the text behind each names.
 #[test]
-fn the_example_of_the_display_pipe() {
+fn the_examples_of_the_display_pipe() {
     let guide = text_of("docs/DISPLAY-PIPE.md");
-    let example = guide.lines().find_map(|line| line.strip_prefix("    printf ")).expect("the guide has an example");
-    let command =
-        format!("printf {}", example.replace("| display_pipe | xxd", "| target/bin/display_pipe | od -An -v -tx1"));
-    let bytes: Vec<String> = run_in(&folder("display-pipe"), &command).split_whitespace().map(str::to_string).collect();
-    let named = "00 00 00 00 0b 00 6e 88 02 01 10 00 00 00 00 00 a5";
-    assert_eq!(bytes.join(" "), named);
-    for part in ["`00 00 00`", "`00 0b 00`", "`6e 88 02 01 10 00 00 00 00 00 a5`"] {
-        assert!(guide.contains(part), "{part}");
+    let folder = folder("display-pipe");
+    let examples: Vec<&str> = guide.split("\n    printf ").skip(1).collect();
+    let named: [&[&str]; 2] =
+        [&["00 00 00", "00 0b 00", "6e 88 02 01 10 00 00 00 00 00 a5"], &["00 00 00", "00 02 00", "00 09"]];
+    assert_eq!(examples.len(), named.len());
+    for (example, parts) in examples.iter().zip(named) {
+        let (command, text) = example.split_once('\n').expect("a text stands behind the command");
+        let run = command.replace("| display_pipe | xxd", "| target/bin/display_pipe | od -An -v -tx1");
+        let bytes: Vec<String> =
+            run_in(&folder, &format!("printf {run}")).split_whitespace().map(str::to_string).collect();
+        assert_eq!(bytes.join(" "), parts.join(" "));
+        for part in parts {
+            assert!(text.contains(&format!("`{part}`")), "{part}");
+        }
     }
 }
 

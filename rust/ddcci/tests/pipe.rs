@@ -1,5 +1,5 @@
 //! The display program on its pipe (docs/DISPLAY-PIPE.md) against the oracle's display: start, declare, every
-//! command, profile write and load.
+//! command, profile write and load, and many settings in one record.
 mod common;
 use common::{program, rounds};
 use oracle::display::{Display, Timing};
@@ -96,6 +96,31 @@ fn some_declaration(r: &mut Random) -> (Declaration, [u8; 9]) {
     (d, bytes)
 }
 
+fn some_settings(r: &mut Random) -> Vec<(u8, u16)> {
+    let count = if r.percent(80) { r.below(12) } else { 60 + r.below(8) };
+    let code = |r: &mut Random| if r.percent(80) { [0x10, 0x12, 0x60, 0x04, 0xF4][r.below(5)] } else { r.byte() };
+    (0..count).map(|_| (code(r), if r.percent(90) { r.below(300) as u16 } else { r.word() })).collect()
+}
+
+/// The body of a record that sets many.
+fn body_of(settings: &[(u8, u16)]) -> Vec<u8> {
+    settings.iter().flat_map(|&(code, value)| [code, value.to_le_bytes()[0], value.to_le_bytes()[1]]).collect()
+}
+
+/// What the record must come to: the settings as Set messages one after the other, unless they are over 64.
+fn set_singly(display: &mut Display, text: &[u8], settings: &[(u8, u16)]) -> (u8, Vec<u8>) {
+    if settings.len() > 64 {
+        return (7, vec![]);
+    }
+    let mut answers = vec![];
+    for &(code, value) in settings {
+        let (mut message, mut out) = ([0; 38], [0; 38]);
+        let n = slow::build_set(code, value, &mut message).unwrap();
+        answers.push(display.step(text, &mut [0; 1024], &message[..n], &mut out).0);
+    }
+    (0, answers)
+}
+
 #[test]
 fn random_sessions() {
     let mut r = Random::new(31);
@@ -149,6 +174,11 @@ fn random_sessions() {
                     };
                     assert_eq!(pipe.record(5, &sheet), wanted);
                 }
+                26..=35 => {
+                    let settings = some_settings(&mut r);
+                    let wanted = set_singly(&mut display, &text, &settings);
+                    assert_eq!(pipe.record(6, &body_of(&settings)), wanted, "{settings:02X?}");
+                }
                 _ => {
                     let message = some_message(&mut r);
                     let mut out = [0; 38];
@@ -161,13 +191,82 @@ fn random_sessions() {
     }
 }
 
+/// A display with brightness (10, at most 100, now 50), input (60, any value, now 17), a code to read alone (12) and a
+/// momentary one (04).
+fn declared() -> Pipe {
+    let mut pipe = Pipe::start();
+    for body in [
+        [0x10, 1, 1, 0, 1, 100, 0, 50, 0],
+        [0x60, 1, 1, 0, 0, 0, 0, 17, 0],
+        [0x12, 1, 0, 0, 1, 100, 0, 50, 0],
+        [0x04, 0, 1, 1, 0, 0, 0, 0, 0],
+    ] {
+        assert_eq!(pipe.record(2, &body), (0, vec![]));
+    }
+    pipe
+}
+
+/// The present value that a Get of a declared code finds.
+fn value(pipe: &mut Pipe, get: [u8; 5]) -> u16 {
+    let (answer, reply) = pipe.record(3, &get);
+    assert_eq!((answer, &reply[..5]), (0, &[0x6E, 0x88, 0x02, 0x00, get[3]][..]));
+    u16::from_be_bytes([reply[8], reply[9]])
+}
+
+/// Sends settings in one record to a display of its own. Its answer and reply, and what Get then finds of 10 and of 60.
+fn set_many(body: &[u8]) -> (u8, Vec<u8>, u16, u16) {
+    let mut pipe = declared();
+    let (answer, reply) = pipe.record(6, body);
+    let brightness = value(&mut pipe, [0x51, 0x82, 0x01, 0x10, 0xAC]);
+    let input = value(&mut pipe, [0x51, 0x82, 0x01, 0x60, 0xDC]);
+    assert_eq!(pipe.end(), "");
+    (answer, reply, brightness, input)
+}
+
+/// Document 02's sentences on many settings in one call, each as a record in literal bytes.
+#[test]
+fn many_settings_in_one_record() {
+    assert_eq!(set_many(&[]), (0, vec![], 50, 17));
+    assert_eq!(set_many(&[0x10, 70, 0]), (0, vec![0], 70, 17));
+    // the low byte of a value stands first
+    assert_eq!(set_many(&[0x60, 0x34, 0x12, 0x10, 0, 1]), (0, vec![0, 9], 50, 0x1234));
+    // "refused ones skipped and the next still tried": undeclared, read alone and F4; above the maximum
+    let refused = [0x20, 1, 0, 0x10, 70, 0, 0x12, 1, 0, 0xF4, 1, 0, 0x10, 101, 0, 0x60, 15, 0];
+    assert_eq!(set_many(&refused), (0, vec![8, 0, 8, 8, 9, 0], 70, 15));
+    // "of a kept code the later accepted value stands"
+    assert_eq!(set_many(&[0x10, 20, 0, 0x10, 30, 0, 0x10, 101, 0]), (0, vec![0, 0, 9], 30, 17));
+    // a momentary code is accepted, and nothing is stored
+    assert_eq!(set_many(&[0x04, 1, 0, 0x04, 2, 0]), (0, vec![0, 0], 50, 17));
+    // "more than 64 .. with 7; nothing is tried"
+    assert_eq!(set_many(&[0x10, 70, 0].repeat(64)), (0, vec![0; 64], 70, 17));
+    assert_eq!(set_many(&[0x10, 70, 0].repeat(65)), (7, vec![], 50, 17));
+}
+
+/// The empty display refuses every setting; the record's own answer is 0. The longest body is refused as a list.
+#[test]
+fn many_settings_on_the_empty_display() {
+    let mut pipe = Pipe::start();
+    assert_eq!(pipe.record(6, &[0x10, 1, 0, 0xF4, 1, 0]), (0, vec![8, 8]));
+    assert_eq!(pipe.record(6, &[0; 192]), (0, vec![8; 64]));
+    assert_eq!(pipe.record(6, &[0; 65535]), (7, vec![]));
+    assert_eq!(pipe.end(), "");
+}
+
 #[test]
 fn malformed_records_get_one_line_and_a_stop() {
     for (bytes, line) in [
-        (&[9u8, 0, 0][..], "the kind of a record"),
+        (
+            &[9u8, 0, 0][..],
+            "record 1 of kind 9: the kind of a record is 1 (start), 2 (declare), 3 (message), 4 (write the profile), 5 (load a profile) or 6 (set many)\n",
+        ),
+        (&[7, 0, 0][..], "record 1 of kind 7: the kind of a record is"),
+        (&[0, 0, 0][..], "record 1 of kind 0: the kind of a record is"),
         (&[1, 3, 0, 0, 0, 0][..], "a start record needs 7 bytes or more"),
         (&[2, 1, 0, 0][..], "a declare record has 9 bytes"),
         (&[4, 1, 0, 0][..], "a record that asks for the profile has no body"),
+        (&[6, 4, 0, 0x10, 70, 0, 0x10][..], "record 1 of kind 6: a record that sets many has 3 bytes a setting\n"),
+        (&[6, 2, 0, 0x10, 70][..], "a record that sets many has 3 bytes a setting"),
+        (&[6, 3, 0, 0x10, 70][..], "the input ends in the middle of a record"),
         (&[3, 9, 0, 0x51][..], "the input ends in the middle of a record"),
         (&[3, 9][..], "the input ends in the middle of a record"),
     ] {

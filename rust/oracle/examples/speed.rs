@@ -10,7 +10,7 @@ use oracle::message::*;
 use oracle::profile;
 use oracle::settings::{Declaration, Settings};
 use oracle::transfer::{State, Transfer};
-use oracle::{Text, TABLE_CODE, TABLE_LIMIT};
+use oracle::{Text, SETTING_LIMIT, TABLE_CODE, TABLE_LIMIT};
 
 /// Prints the nanoseconds of one call, the best of ten rounds.
 fn time(name: &str, calls: u32, mut call: impl FnMut()) {
@@ -154,6 +154,24 @@ fn displays() {
     });
 }
 
+fn many_settings() {
+    let (_, mut display) = Display::start(Timing::default(), &[], 32);
+    display.settings = all_codes();
+    let codes: [u8; SETTING_LIMIT] = std::array::from_fn(|place| place as u8);
+    let values = [7; SETTING_LIMIT];
+    let mut answers = [0; SETTING_LIMIT];
+    time("64 settings in one call", 20_000, || {
+        black_box(display.set_all(black_box(&codes), black_box(&values), &mut answers));
+    });
+    let mut held = Some(display);
+    time("64 settings in one call by value", 20_000, || {
+        if let Some(display) = held.take() {
+            let (display, _) = black_box(display.set_all_by_value(black_box(&codes), black_box(&values), &mut answers));
+            held = Some(display);
+        }
+    });
+}
+
 fn transfers() {
     let text: Vec<u8> = (0..4096u32).map(|byte| byte as u8).collect();
     for size in [32, 1] {
@@ -211,6 +229,7 @@ fn main() {
     messages();
     capabilities_strings();
     displays();
+    many_settings();
     transfers();
     profiles();
     call_lists();

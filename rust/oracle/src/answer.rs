@@ -2,7 +2,7 @@
 
 /// 0: done.
 pub const DONE: u8 = 0;
-/// 1: a lent output, buffer or text of a wrong size.
+/// 1: a lent output, buffer or text of a wrong size, or fewer answers than codes.
 pub const SIZE: u8 = 1;
 /// 2: under 3 bytes.
 pub const SHORT: u8 = 2;
@@ -14,7 +14,7 @@ pub const LENGTH: u8 = 4;
 pub const CHECKSUM: u8 = 5;
 /// 6: command not in the table of this end, or no body towards the display.
 pub const COMMAND: u8 = 6;
-/// 7: body length or a field wrong for the command.
+/// 7: body length or a field wrong for the command, over 64 settings, or unequally many codes and values.
 pub const FIELD: u8 = 7;
 /// 8: VCP code not allowed.
 pub const CODE: u8 = 8;

@@ -2,7 +2,7 @@
 
 use crate::message::{self, Request, FRAGMENT_LIMIT, OUTPUT_LEN, STATUS_RESERVED};
 use crate::settings::{Declaration, Settings};
-use crate::{answer, Text, TABLE_CODE, TABLE_LIMIT, TEXT_LIMIT};
+use crate::{answer, Text, SETTING_LIMIT, TABLE_CODE, TABLE_LIMIT, TEXT_LIMIT};
 
 /// The fragment cursor ("place") of a text: the offset and the length of the
 /// last fragment, "both 0 at first".
@@ -193,6 +193,34 @@ impl Display {
             Some(Text::Table) => part(table, self.table_cursor),
         };
         (outcome.answer, outcome.reply_len, fragment)
+    }
+
+    /// Many settings in one call: "it must equal that many Set messages one
+    /// after the other: the same board afterwards, the same answer at each
+    /// place, refused ones skipped and the next still tried. An answer buffer
+    /// shorter than the codes is refused with 1, then more than 64, or unequally
+    /// many codes and values, with 7; nothing is tried and no answer written."
+    /// Answers beyond the codes stay.
+    #[inline]
+    pub fn set_all(&mut self, codes: &[u8], values: &[u16], answers: &mut [u8]) -> u8 {
+        let Some(answers) = answers.get_mut(..codes.len()) else {
+            return answer::SIZE;
+        };
+        if codes.len() > SETTING_LIMIT || codes.len() != values.len() {
+            return answer::FIELD;
+        }
+        for ((answer, &code), &value) in answers.iter_mut().zip(codes).zip(values) {
+            *answer = self.settings.set(code, value);
+        }
+        answer::DONE
+    }
+
+    /// The same with the display given and handed back by value, behind a call
+    /// that is not inlined, as a library's function is.
+    #[inline(never)]
+    pub fn set_all_by_value(mut self, codes: &[u8], values: &[u16], answers: &mut [u8]) -> (Self, u8) {
+        let answer = self.set_all(codes, values, answers);
+        (self, answer)
     }
 
     #[inline]

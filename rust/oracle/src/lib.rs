@@ -19,6 +19,7 @@ pub mod display;
 pub mod line;
 pub mod message;
 pub mod profile;
+pub mod set_all_by_definition;
 pub mod settings;
 pub mod transfer;
 
@@ -39,3 +40,6 @@ pub const TEXT_LIMIT: usize = 4096;
 
 /// "The call list at most 1,024": the table buffer's exact length.
 pub const TABLE_LIMIT: usize = 1024;
+
+/// "The tent sends up to 64 settings to each board at dawn."
+pub const SETTING_LIMIT: usize = 64;

@@ -106,6 +106,14 @@ impl Site {
         self.send(&m[..n]).0
     }
 
+    /// The settings of one call, which must come to what single Set messages come to.
+    fn set_all(&mut self, said: &mut String, settings: &[(&str, u8, u16)]) {
+        writeln!(said, "    {} settings in one call: {}", settings.len(), meaning(0)).unwrap();
+        for &(name, code, value) in settings {
+            self.set(said, name, code, value);
+        }
+    }
+
     fn set(&mut self, said: &mut String, name: &str, code: u8, value: u16) {
         let mut m = [0; 38];
         let n = build_set(code, value, &mut m).unwrap();
@@ -277,11 +285,14 @@ fn day() -> String {
             match task {
                 0 => write_list(&mut said, site, &list),
                 1 => {
-                    site.set(&mut said, "brightness", 0x10, 70);
-                    site.set(&mut said, "brightness", 0x10, 101);
+                    let settings = [
+                        ("brightness", 0x10, 70),
+                        ("brightness", 0x10, 101),
+                        ("input", 0x60, 15),
+                        ("degauss", 0x01, 1),
+                    ];
+                    site.set_all(&mut said, &settings);
                     site.get(&mut said, "brightness", 0x10);
-                    site.set(&mut said, "input", 0x60, 15);
-                    site.set(&mut said, "degauss", 0x01, 1);
                 }
                 2 => {
                     if i == 0 {

@@ -8,20 +8,20 @@ use std::hint::black_box;
 
 const CALLS: usize = 10_000;
 const SIZE: u16 = 31;
-const CODES: u8 = 40;
+pub const CODES: u8 = 40;
 
-struct Lent {
-    table: [u8; TABLE_ROOM],
-    out: [u8; OUTPUT_ROOM],
+pub struct Lent {
+    pub table: [u8; TABLE_ROOM],
+    pub out: [u8; OUTPUT_ROOM],
 }
 
 impl Lent {
-    fn new() -> Lent {
+    pub fn new() -> Lent {
         Lent { table: [0; TABLE_ROOM], out: [0; OUTPUT_ROOM] }
     }
 }
 
-fn ours(text: &[u8]) -> Display {
+pub fn ours(text: &[u8]) -> Display {
     let mut display = Display::start(Timing::default(), text, SIZE).unwrap();
     for code in 0..CODES {
         let (maximum, present) = (100, 50);
@@ -32,7 +32,7 @@ fn ours(text: &[u8]) -> Display {
     display
 }
 
-fn theirs(text: &[u8]) -> slow::Display {
+pub fn theirs(text: &[u8]) -> slow::Display {
     let (_, mut display) = slow::Display::start(slow::Timing::default(), text, SIZE.into());
     for code in 0..CODES {
         let (maximum, present) = (100, 50);

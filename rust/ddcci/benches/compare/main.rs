@@ -1,5 +1,6 @@
 //! Paneknoll's proved functions beside the oracle's, in one run: `cargo bench`. Each line is what is measured,
-//! Paneknoll, the oracle, and the ratio of the two; of a step of the display also the oracle by `&mut`.
+//! Paneknoll, the oracle, and the ratio of the two; of a step of the display also the oracle by `&mut`, and of many
+//! settings as many steps.
 mod call_lists;
 mod capabilities;
 mod checksum;
@@ -7,6 +8,7 @@ mod display;
 mod installed;
 mod measure;
 mod messages;
+mod settings;
 mod transfers;
 
 fn main() {
@@ -18,4 +20,5 @@ fn main() {
     transfers::run();
     call_lists::run();
     display::run();
+    settings::run();
 }

@@ -1,0 +1,5 @@
+pub mod Calls
+pub mod Messages
+pub mod Last
+pub mod Theorems
+pub mod Refuted

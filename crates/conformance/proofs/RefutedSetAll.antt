@@ -9,9 +9,8 @@ use lib.ListN.{length, getD, take, drop, replicate}
 use Rattle.checksum.specs.Bytes.{Bytes}
 use Rattle.checksum.specs.Bytes as bytes
 use Rattle.message_rules.specs.Body as body
-use Rattle.message_rules.specs.Message.{tableWrite, requests, encode, Valid, toDisplay}
+use Rattle.message_rules.specs.Message.{tableWrite, requests, Valid}
 use Rattle.message_rules.specs.declared.TextKind.the-variants.{Table}
-use Rattle.message_rules.proofs.RoundTrip.{requests-round}
 use Rattle.display_rules.specs.State as display
 use Rattle.display_rules.specs.State.{startingCursor, cursorOf}
 use Rattle.display_rules.specs.Kept.{Kept, stepKept, keptAfter, withDisplay}
@@ -24,6 +23,7 @@ use Rattle.display_rules.specs.declared.FragmentCursor.{FragmentCursor}
 use Rattle.display_rules.specs.declared.TextState.{TextState}
 use Rattle.display_rules.proofs.Operations.{lent-well}
 use Rattle.display_rules.proofs.Reading.{read-back}
+use Rattle.display_rules.proofs.Refuted.{write, write-valid, write-bytes}
 use Rattle.display_rules.proofs.Tables.{writes-go-in}
 use Rattle.display_rules.proofs.Texts.{write-numbers}
 use Rattle.transfer_rules.specs.declared.State.the-variants.{Done}
@@ -43,47 +43,33 @@ out = replicate 38 0
 
 -- ---- writes to the table, at offset 0, of at most one byte
 
-abbrev writes : List ℕ → List ℕ
-writes s = encode requests toDisplay (tableWrite 0xF4 0 s)
-
 module _ (s : List ℕ) (few : length s ≤ 1) (small : Bytes s) where
   valid : Valid requests (tableWrite 0xF4 0 s)
-  valid = record {
-    bytesCount = refl;
-    wordsCount = refl;
-    restCount = omega (arith, few);
-    bytesFit = bytes.more {b = 0xF4} (omega arith) bytes.none;
-    wordsFit = body.more {w = 0} (omega arith) body.none;
-    restFit = small;
-    ruled = refl;
-  }
-
-  writes-bytes : Bytes (writes s)
-  writes-bytes = requests-round .bytes toDisplay (tableWrite 0xF4 0 s) (omega arith) (omega arith) valid
+  valid = write-valid s (omega (arith, few)) small
 
   -- a display lent right, after such a write: it is made, its table is the data, and nothing was sent of it
   module _ (k : Kept) (m : Made stepKept (k .display)) (w : LentRight k out) where
-    made-after : Made stepKept (stepKept k (writes s) out .display)
-    made-after = made.stepped k m (writes s) out writes-bytes
+    made-after : Made stepKept (stepKept k (write s) out .display)
+    made-after = made.stepped k m (write s) out (write-bytes s valid)
 
-    wrote : Writes k out 0xF4 0 s (stepKept k (writes s) out)
-    wrote = write-numbers k (writes s) out 0xF4 0 s w (read-back (tableWrite 0xF4 0 s) valid)
+    wrote : Writes k out 0xF4 0 s (stepKept k (write s) out)
+    wrote = write-numbers k (write s) out 0xF4 0 s w (read-back (tableWrite 0xF4 0 s) valid)
 
-    accepted : stepKept k (writes s) out .answer ≡ 0
+    accepted : stepKept k (write s) out .answer ≡ 0
     accepted = wrote .otherwise refl (omega arith) (omega (arith, few))
 
-    holds : whole Table (keptAfter k (stepKept k (writes s) out)) ≡ s
-    holds = writes-go-in k (writes s) out 0 s m (lent-well k out w) (read-back (tableWrite 0xF4 0 s) valid) (omega arith) (omega (arith, few)) .1
+    holds : whole Table (keptAfter k (stepKept k (write s) out)) ≡ s
+    holds = writes-go-in k (write s) out 0 s m (lent-well k out w) (read-back (tableWrite 0xF4 0 s) valid) (omega arith) (omega (arith, few)) .1
 
-    unsent-after : cursorOf Table (stepKept k (writes s) out .display) ≡ startingCursor
-    unsent-after = writes-go-in k (writes s) out 0 s m (lent-well k out w) (read-back (tableWrite 0xF4 0 s) valid) (omega arith) (omega (arith, few)) .2
+    unsent-after : cursorOf Table (stepKept k (write s) out .display) ≡ startingCursor
+    unsent-after = writes-go-in k (write s) out 0 s m (lent-well k out w) (read-back (tableWrite 0xF4 0 s) valid) (omega arith) (omega (arith, few)) .2
 
 -- ---- a call that sets what it should, and empties the table
 
 abbrev empties : SetAllRule
 empties d codes values answers =
     let left = displaySetAll d codes values answers in
-    record { changed = record { display = stepKept (lentTo (left .changed .display)) (writes []) out .display; answer = left .changed .answer }; answers = left .answers }
+    record { changed = record { display = stepKept (lentTo (left .changed .display)) (write []) out .display; answer = left .changed .answer }; answers = left .answers }
 
 -- ---- a display with a table of one byte, 7, and what the call leaves of it
 
@@ -97,7 +83,7 @@ seven : Bytes (7 ∷ [])
 seven = bytes.more {b = 7} (omega arith) bytes.none
 
 abbrev one : Kept
-one = keptAfter (lentTo started) (stepKept (lentTo started) (writes (7 ∷ [])) out)
+one = keptAfter (lentTo started) (stepKept (lentTo started) (write (7 ∷ [])) out)
 
 one-made : Made stepKept (one .display)
 one-made = made-after (7 ∷ []) (omega arith) seven (lentTo started) is-made (lent-to started)
@@ -115,9 +101,9 @@ one-holds : whole Table one ≡ 7 ∷ []
 one-holds = holds (7 ∷ []) (omega arith) seven (lentTo started) is-made (lent-to started)
 
 abbrev none : Kept
-none = withDisplay one (stepKept (lentTo (one .display)) (writes []) out .display)
+none = withDisplay one (stepKept (lentTo (one .display)) (write []) out .display)
 
-none-wrote : Writes (lentTo (one .display)) out 0xF4 0 [] (stepKept (lentTo (one .display)) (writes []) out)
+none-wrote : Writes (lentTo (one .display)) out 0xF4 0 [] (stepKept (lentTo (one .display)) (write []) out)
 none-wrote = wrote [] (omega arith) bytes.none (lentTo (one .display)) one-made (lent-to (one .display))
 
 none-lent : LentRight none out

@@ -155,10 +155,10 @@ silent-refuted h =
 
 -- ---- a write of one byte at 0, and then one of none
 
-abbrev write : List ℕ → List ℕ
+abbrev pub write : List ℕ → List ℕ
 write s = encode requests toDisplay (tableWrite tableCode 0 s)
 
-write-valid : (s : List ℕ) → length s ≤ mostWritten → bytes.Bytes s → Valid requests (tableWrite tableCode 0 s)
+pub write-valid : (s : List ℕ) → length s ≤ mostWritten → bytes.Bytes s → Valid requests (tableWrite tableCode 0 s)
 write-valid s l b = record {
   bytesCount = refl;
   wordsCount = refl;
@@ -169,7 +169,7 @@ write-valid s l b = record {
   ruled = refl;
 }
 
-write-bytes : (s : List ℕ) → Valid requests (tableWrite tableCode 0 s) → bytes.Bytes (write s)
+pub write-bytes : (s : List ℕ) → Valid requests (tableWrite tableCode 0 s) → bytes.Bytes (write s)
 write-bytes s v = requests-round .bytes toDisplay (tableWrite tableCode 0 s) (omega arith) (omega arith) v
 
 one-valid : Valid requests (tableWrite tableCode 0 (7 ∷ []))

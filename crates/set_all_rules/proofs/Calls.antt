@@ -1,5 +1,5 @@
 -- What a call comes to: allowed, every setting is tried and every answer stands at its place; refused, nothing.
-use mathlib.Core.Path.{_≡_, refl, sym, ap, _∙_, subst}
+use mathlib.Core.Path.{_≡_, refl, ap, _∙_, subst}
 use mathlib.Core.Bool.{Bool, true, false, cond, not, _&&_, _||_}
 use mathlib.Core.Logic.{_⊎_, inl, inr}
 use mathlib.Core.List.{List, [], _∷_}
@@ -8,7 +8,7 @@ use native.Mathlib.Omega.{arith}
 use lib.ListN.{length, getD}
 use lib.Dec.{eqb, leb}
 use borrow.Author.Tests.{eq-eqb, ne-eqb, eqb-true, le-leb, leb-true, lt-leb}
-use Rattle.buffers.specs.Buffers.{over, put}
+use Rattle.buffers.specs.Buffers.{over}
 use Rattle.buffers.specs.Statements.{PutsThere}
 use Rattle.buffers.proofs.Theorems.{puts-bytes, over-puts}
 use Rattle.codes.specs.Codes.{member}

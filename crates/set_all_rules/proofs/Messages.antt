@@ -1,5 +1,5 @@
 -- Set messages stepped one after the other leave what trying the settings leaves.
-use mathlib.Core.Path.{_≡_, refl, _∙_}
+use mathlib.Core.Path.{_≡_, refl}
 use mathlib.Core.List.{List, [], _∷_}
 use Prim.Native.Nat.{ℕ, _<_}
 use native.Mathlib.Omega.{arith}
@@ -15,7 +15,6 @@ use Rattle.settings_rules.specs.Settings.{setCode}
 use Rattle.settings_rules.specs.declared.Settings.{Settings}
 use Rattle.profile_rules.specs.Statements as profile
 use Rattle.display_rules.specs.State.{withSettings}
-use Rattle.display_rules.specs.Step.{Outcome}
 use Rattle.display_rules.specs.Turn.{setTurn}
 use Rattle.display_rules.specs.Kept.{Kept, keeping, stepKept, withDisplay}
 use Rattle.display_rules.specs.Operations.{LentRight}

@@ -157,8 +157,9 @@ ddcci_built ddcci_build_null(uint8_t *out, size_t out_length);
 /* Reads a capabilities string: answers 0 and writes one entry a node into each of the four buffers, in text
  * order, entries past them stay; or 11, 13, 14, 15 with the position, and writes nothing. The room is the
  * length of the shortest buffer, at most DDCCI_MOST_NODES. A node's entries are the start and the length of
- * its word, its parent's number or DDCCI_NO_PARENT, and 1 where a group follows it, else 0. No two of the
- * five slices may overlap. */
+ * its word, its parent's number or DDCCI_NO_PARENT, and 1 where a group follows it, else 0. Zero bytes may
+ * stand behind the outer group: they make no node, and count to the 4,096 bytes that a string may have. No
+ * two of the five slices may overlap. */
 ddcci_reading ddcci_read_capabilities(const uint8_t *text, size_t text_length, uint16_t *starts,
                                       size_t starts_length, uint16_t *lengths, size_t lengths_length,
                                       uint16_t *parents, size_t parents_length, uint8_t *groups,
@@ -176,7 +177,8 @@ ddcci_built ddcci_request(ddcci_transfer transfer, uint8_t *out, size_t out_leng
 /* Receives the bytes that came back, or none: answers 0 and puts the fragment's data at the offset reached;
  * 16 if the transfer is closed; 1 for another buffer's length; the reader's number; 10 for another fragment;
  * 11 for data past the room, which closes the transfer; 6 for an unknown text. The reply must not overlap
- * the buffer. The text is whole only where the state is DDCCI_DONE afterwards. */
+ * the buffer. The text is whole only where the state is DDCCI_DONE afterwards; a capabilities string that
+ * ends with zero bytes comes with them, and ddcci_read_capabilities takes them. */
 ddcci_transfer ddcci_receive(ddcci_transfer transfer, uint8_t *buffer, size_t buffer_length,
                              const uint8_t *reply, size_t reply_length);
 

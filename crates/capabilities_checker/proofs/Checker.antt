@@ -13,7 +13,7 @@ use Rattle.capabilities_rules.specs.Limits.{deepest}
 use Rattle.capabilities_rules.specs.Machine.{kindOf, isLetter, inside, actOf}
 use Rattle.capabilities_rules.specs.Outcome.{judge}
 use Rattle.capabilities_rules.specs.Kinds.{ByteKind}
-use Rattle.capabilities_rules.specs.Kinds.{Open, Close, Space, Letter, Other}
+use Rattle.capabilities_rules.specs.Kinds.{Open, Close, Space, Letter, Zero, Other}
 use Rattle.capabilities_rules.specs.Kinds.{Free, Word}
 use Rattle.capabilities_rules.specs.Kinds.{Leave, Refuse}
 use Rattle.capabilities_rules.proofs.Laws.{judge-end, stop-deep, go-in, go-out, stop-full, go-word, stop-bad}
@@ -22,7 +22,7 @@ use Rattle.capabilities_scan.specs.Scan.{spaces}
 use Rattle.capabilities_checker.specs.Checker.{resumed, Checked, Within}
 use Rattle.capabilities_checker.specs.declared.Group.{Group}
 use Rattle.capabilities_checker.specs.declared.Group.the-variants.{Closed, Stopped}
-use Rattle.capabilities_scan.proofs.Runs.{Passed, begins-free, begins, no-spaces, passed, settled, enters, behind, within, free-spaces, none-here, counts-spaces, tight-after, spaces-within, passed-within, closes}
+use Rattle.capabilities_scan.proofs.Runs.{Passed, begins-free, begins, no-spaces, passed, settled, enters, behind, within, free-spaces, none-here, counts-leading, tight-after, spaces-within, passed-within, closes}
 
 -- it began at `start` with `count` nodes, and stands at `at` with n, where no space is
 pub record Going (room d start count at n : ℕ) (s : List ℕ) : Type 0 where
@@ -51,11 +51,12 @@ unfit b Open k nc ns nl = refl
 unfit b Close k nc ns nl = absurd (nc k)
 unfit b Space k nc ns nl = absurd (ns k)
 unfit b Letter k nc ns nl = let z : _≡_ {A = ℕ} 0 1 = cc in absurd (omega arith)
+unfit b Zero k nc ns nl = refl
 unfit b Other k nc ns nl = refl
 
 module _ (room d start count at n : ℕ) (s : List ℕ) (g : Going room d start count at n s) where
   pub not-space : at < length s → getD s at 0 ≡ 0x20 → ⊥
-  not-space h = eqb-false (getD s at 0) 0x20 (none-here spaces (λ b. eqb b 0x20) counts-spaces s at h (g .tight))
+  not-space h = eqb-false (getD s at 0) 0x20 (none-here spaces (λ b. eqb b 0x20) (counts-leading 0x20) s at h (g .tight))
 
   pub at-close : at < length s → getD s at 0 ≡ 0x29 → Checked room start count d s (Closed (record { 0 = at + 1 }) n)
   at-close h e = record {

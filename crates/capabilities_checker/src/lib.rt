@@ -1,4 +1,4 @@
-// Judges a capabilities string as document 01's grammar says, and changes nothing.
+// Judges a capabilities string as the papers' grammar says, and changes nothing.
 use capabilities_rules::Reading;
 use capabilities_rules::limits::DEEPEST;
 use capabilities_scan::CLOSE;
@@ -6,6 +6,7 @@ use capabilities_scan::OPEN;
 use capabilities_scan::is_letter;
 use capabilities_scan::opens_at;
 use capabilities_scan::skip_spaces;
+use capabilities_scan::skip_zeros;
 use capabilities_scan::word_end;
 use message_rules::Position;
 use message_rules::answer;
@@ -84,8 +85,9 @@ pub fn check(text: &[u8], room: usize) -> Reading
     let outer = check_group(text, Position(1), DEEPEST - 1, 0, room);
     match outer {
         Group::Closed(next, count) => {
-            if next.0 < text.len() {
-                Reading::Refused(answer::WRONG_GRAMMAR, next)
+            let end = skip_zeros(text, next);
+            if end.0 < text.len() {
+                Reading::Refused(answer::WRONG_GRAMMAR, end)
             } else {
                 Reading::Accepted(count)
             }

@@ -15,14 +15,14 @@ use Rattle.capabilities_rules.specs.Outcome.{judge, isAccepted}
 use Rattle.capabilities_rules.specs.Nodes.{nodes, nodeAt, letters, opens, opened, latest}
 use Rattle.capabilities_rules.specs.Buffers.{Buffers, bufferRoom}
 use Rattle.capabilities_rules.specs.Kinds.{ByteKind}
-use Rattle.capabilities_rules.specs.Kinds.{Open, Close, Space, Letter, Other}
+use Rattle.capabilities_rules.specs.Kinds.{Open, Close, Space, Letter, Zero, Other}
 use Rattle.capabilities_rules.specs.Kinds.{Free, Word}
 use Rattle.capabilities_rules.specs.Kinds.{Enter, Leave, Begin, Refuse}
 use Rattle.capabilities_rules.proofs.Laws.{nodes-at, taken, not-deep, not-full, letters-at, opens-at, opens-end, not-ended}
 use Rattle.capabilities_rules.proofs.Bytes.{KindIs, kind-is}
 use Rattle.capabilities_scan.specs.Scan.{spaces, around}
 use Rattle.capabilities_reader.specs.Filler.{node, put, stored, Filled}
-use Rattle.capabilities_scan.proofs.Runs.{Passed, begins, no-spaces, passed, settled, enters, behind, within, free-spaces, first-of, none-here, counts-spaces, tight-after, spaces-within, passed-within, closes}
+use Rattle.capabilities_scan.proofs.Runs.{Passed, begins, no-spaces, passed, settled, enters, behind, within, free-spaces, first-of, none-here, counts-leading, tight-after, spaces-within, passed-within, closes}
 
 -- the buffers are as long as they were
 pub record SameSize (t₀ t : Buffers) : Type 0 where
@@ -40,7 +40,7 @@ opens-past : (s : List ℕ) (k at : ℕ) → spaces (drop at s) ≡ k → opens 
 unfolding kindOf
 opens-past s zero at e = let same : at ≡ at + 0 = omega arith in ap (λ (i : ℕ). opens (drop i s)) same
 opens-past s (suc k) at e =
-    let f = first-of spaces (λ b. eqb b 0x20) counts-spaces s at k e in
+    let f = first-of spaces (λ b. eqb b 0x20) (counts-leading 0x20) s at k e in
     let same : at + 1 + k ≡ at + suc k = omega arith in
     opens-at s at Space (f .inside) (sym (ap kindOf (eqb-true (getD s at 0) 0x20 (f .is)))) ∙ opens-past s k (at + 1) (f .rest) ∙ ap (λ (i : ℕ). opens (drop i s)) same
 
@@ -53,6 +53,7 @@ opened-not b Open rest k shut ns = absurd (shut k)
 opened-not b Close rest k shut ns = refl
 opened-not b Space rest k shut ns = absurd (ns k)
 opened-not b Letter rest k shut ns = refl
+opened-not b Zero rest k shut ns = refl
 opened-not b Other rest k shut ns = refl
 
 opens-not : (s : List ℕ) (at : ℕ) → (getD s at 0 ≡ 0x28 → ⊥) → spaces (drop at s) ≡ 0 → opens (drop at s) ≡ 0
@@ -63,7 +64,7 @@ opens-not s at shut ns = go (leb (length s) at) refl
     go false f =
         let h : at < length s = leb-false (length s) at f in
         opens-at s at (kindOf (getD s at 0)) h refl
-        ∙ opened-not (getD s at 0) (kindOf (getD s at 0)) (opens (drop (at + 1) s)) (kind-is (getD s at 0)) shut (eqb-false (getD s at 0) 0x20 (none-here spaces (λ b. eqb b 0x20) counts-spaces s at h ns))
+        ∙ opened-not (getD s at 0) (kindOf (getD s at 0)) (opens (drop (at + 1) s)) (kind-is (getD s at 0)) shut (eqb-false (getD s at 0) 0x20 (none-here spaces (λ b. eqb b 0x20) (counts-leading 0x20) s at h ns))
 
 opens-is : (s : List ℕ) (at : ℕ) → spaces (drop at s) ≡ 0 → opens (drop at s) ≡ cond (eqb (getD s at 0) 0x28) 1 0
 opens-is s at ns = go (eqb (getD s at 0) 0x28) refl
@@ -124,6 +125,7 @@ fit b Open k nc ns ok = absurd (ok refl)
 fit b Close k nc ns ok = absurd (nc k)
 fit b Space k nc ns ok = absurd (ns k)
 fit b Letter k nc ns ok = refl
+fit b Zero k nc ns ok = absurd (ok refl)
 fit b Other k nc ns ok = absurd (ok refl)
 
 module _ (room d start count parent at n : ℕ) (s : List ℕ) (t₀ t : Buffers) (f : Filling room d start count parent at n s t₀ t) where
@@ -137,7 +139,7 @@ module _ (room d start count parent at n : ℕ) (s : List ℕ) (t₀ t : Buffers
 
   pub letter-there : (getD s at 0 ≡ 0x29 → ⊥) → isLetter (kindOf (getD s at 0)) ≡ true
   letter-there nc =
-      fit (getD s at 0) (kindOf (getD s at 0)) (kind-is (getD s at 0)) nc (eqb-false (getD s at 0) 0x20 (none-here spaces (λ b. eqb b 0x20) counts-spaces s at goes-on (f .tight)))
+      fit (getD s at 0) (kindOf (getD s at 0)) (kind-is (getD s at 0)) nc (eqb-false (getD s at 0) 0x20 (none-here spaces (λ b. eqb b 0x20) (counts-leading 0x20) s at goes-on (f .tight)))
       (λ e. let z = taken room at n (inside d Free) s Refuse goes-on e (f .read) .0 in omega arith)
 
   module _ (end next : ℕ) (w : Passed s at end next) where

@@ -6,7 +6,7 @@ use mathlib.Core.List.{List, [], _∷_, _++_, map}
 use native.Mathlib.Numerals.{add-one}
 use native.Mathlib.Nat.{zero-add}
 use native.Mathlib.Omega.{arith}
-use lib.ListN.{length, drop, length-map, drop-of-length-le}
+use lib.ListN.{length, drop, length-map}
 use lib.Seq.{sets, sets-eq}
 use Rattle.capabilities_rules.specs.Limits.{deepest, noParent}
 use Rattle.capabilities_rules.specs.Grammar.{Node}
@@ -17,7 +17,7 @@ use Rattle.buffers.specs.Buffers.{over}
 use Rattle.capabilities_rules.specs.Buffers.{Buffers, buffers, bufferRoom, written}
 use Rattle.capabilities_rules.specs.declared.Reading.{Reading}
 use Rattle.capabilities_rules.specs.declared.Reading.the-variants.{Accepted, Refused}
-use Rattle.capabilities_rules.proofs.Whole.{accepted, at-end, nodes-open, judge-count, outcome-short}
+use Rattle.capabilities_rules.proofs.Whole.{accepted, nodes-past, nodes-open, judge-count, outcome-short}
 use Rattle.capabilities_reader.specs.Filler.{put, stored, Fillable, Filled}
 
 pub stored-sets : (xs : List Node) (t : Buffers) (n : ℕ)
@@ -53,12 +53,11 @@ module _ (s : List ℕ) (t : Buffers) (ok : isAccepted (outcome (bufferRoom t) s
 
   -- .. and then all its nodes are stored
   pub filled : (t′ : Buffers) (next k : ℕ) → Filled 1 (deepest - 1) 0 noParent s t t′ next k → t′ ≡ written 0 (nodesOf s) t
-  unfolding stored nodes nodesOf
+  unfolding stored nodesOf
   filled t′ next k f =
       let m = made (outcome (bufferRoom t) s) ok in
       let a = accepted (bufferRoom t) (m .0) s (m .1) in
-      let past = at-end (bufferRoom t) next k s (f .read) in
-      let ended : stored t′ k (nodes next k [] after (drop next s)) ≡ t′ = ap (λ (l : List ℕ). stored t′ k (nodes next k [] after l)) (drop-of-length-le s past) in
+      let ended : stored t′ k (nodes next k [] after (drop next s)) ≡ t′ = ap (stored t′ k) (nodes-past (drop next s) next k []) in
       let whole : stored t 0 (nodesOf s) ≡ t′ = ap (stored t 0) (nodes-open (bufferRoom t) s (a .some) (a .opens)) ∙ f .same [] ∙ ended in
       let count = judge-count (bufferRoom t) 0 (m .0) s 0 [] before (sym (outcome-short (bufferRoom t) s (a .small)) ∙ m .1) in
       let room : m .0 ≤ bufferRoom t = count .1 (omega arith) in

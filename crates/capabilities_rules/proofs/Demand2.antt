@@ -10,7 +10,7 @@ use Rattle.capabilities_rules.specs.Outcome.{told, refused, outcome}
 use Rattle.capabilities_rules.specs.Nodes.{nodesOf}
 use Rattle.capabilities_rules.specs.Buffers.{Buffers, written, Answered}
 use Rattle.capabilities_rules.specs.Prefixes.{Why, too-long, cut-short, wrong-byte, ninth-open, no-node}
-use Rattle.capabilities_rules.specs.Demand2.{roomIn, Accepts, ReadRightly, Demand2}
+use Rattle.capabilities_rules.specs.Demand2.{roomIn, Holds, Accepts, ReadRightly, Demand2}
 use Rattle.capabilities_rules.specs.declared.Reading.{Reading}
 use Rattle.capabilities_rules.specs.declared.Reading.the-variants.{Accepted, Refused}
 use Rattle.capabilities_rules.proofs.Theorems.{theorems}
@@ -33,6 +33,9 @@ leaves (suc k) xs t h = refl
 
 pub refusal-leaves : (room k : ℕ) (p : Position) (s : List ℕ) (xs : List Node) (t : Buffers) → outcome room s ≡ Refused k p → written k xs t ≡ t
 refusal-leaves room k p s xs t e = leaves k xs t (refusal-number room k p s e)
+
+held : (xs : List Node) (t t′ : Buffers) → Holds xs t t′ → t′ ≡ written 0 xs t
+held xs t t′ h = λ i. record { starts = h .starts i; lengths = h .lengths i; parents = h .parents i; groups = h .groups i }
 
 module _ (s : List ℕ) (t t′ : Buffers) (r : Reading) (a : Answered s t t′ r) where
   fitting : (xs : Items) → Fits (roomIn t) s xs → Accepts s t t′ r xs
@@ -62,6 +65,26 @@ module _ (s : List ℕ) (t t′ : Buffers) (r : Reading) (a : Answered s t t′ 
     refuses = refusing;
     refused-there = λ k p w. a .answer ∙ theorems .exactly (roomIn t) k p s w;
   }
+
+-- what reads rightly answers and leaves as ours does: demand 2 leaves no choice
+pub answered : (s : List ℕ) (t t′ : Buffers) (r : Reading) → ReadRightly s t t′ r → Answered s t t′ r
+answered s t t′ r h = go (outcome (roomIn t) s) refl
+  where
+    go : (x : Reading) → outcome (roomIn t) s ≡ x → Answered s t t′ r
+    go (Accepted n) e =
+        let f = theorems .accepted (roomIn t) n s e in
+        let a = h .accepts (f .0) (f .1) in
+        record {
+          answer = a .counts ∙ sym (theorems .accepts (roomIn t) s (f .0) (f .1));
+          stored = held (nodesFrom 65535 0 (f .0)) t t′ (a .holds) ∙ ap (λ (l : List Node). written 0 l t) (sym (theorems .noded s (f .0) (f .1 .grammar)))
+              ∙ sym (ap (λ (x : Reading). written (told x .number) (nodesOf s) t) (a .counts));
+        }
+    go (Refused k p) e =
+        let q = h .refused-there k (p .0) (theorems .refusals (roomIn t) k (p .0) s e) in
+        record {
+          answer = q ∙ sym e;
+          stored = h .refuses k (p .0) q .1 ∙ sym (ap (λ (x : Reading). written (told x .number) (nodesOf s) t) q ∙ refusal-leaves (roomIn t) k p s (nodesOf s) t e);
+        }
 
 pub demand2 : Demand2 Answered
 demand2 = record {

@@ -16,15 +16,15 @@ use Rattle.capabilities_rules.specs.Machine.{kindOf, Phase, before, insi
 use Rattle.capabilities_rules.specs.Outcome.{judge, unless, fault, counted, refused, ending, outcome}
 use Rattle.capabilities_rules.specs.Prefixes.{Viable, ViableCapped, wordsIn, Clear, Why, too-long, cut-short, wrong-byte, ninth-open, no-node}
 use Rattle.capabilities_rules.specs.Kinds.{ByteKind}
-use Rattle.capabilities_rules.specs.Kinds.{Open, Close, Space, Letter, Other}
+use Rattle.capabilities_rules.specs.Kinds.{Open, Close, Space, Letter, Zero, Other}
 use Rattle.capabilities_rules.specs.Kinds.{Free, Word, Gap}
 use Rattle.capabilities_rules.specs.Kinds.{Act}
 use Rattle.capabilities_rules.specs.Kinds.{Enter, Leave, Begin, Extend, Skip, Refuse}
 use Rattle.capabilities_rules.proofs.Whole.{outcome-short, outcome-long}
 use Rattle.capabilities_rules.proofs.Walk.{Taken, entered, free}
-use Rattle.capabilities_rules.proofs.Parse.{complete}
-use Rattle.capabilities_rules.proofs.Prefixes.{none-some, run-append, run-viable, viable-run, capped-viable, viable-capped}
-use Rattle.capabilities_rules.proofs.Refusals.{inWord, news, run-on, words-on, no-such}
+use Rattle.capabilities_rules.proofs.Parse.{none-some, complete}
+use Rattle.capabilities_rules.proofs.Prefixes.{run-append, run-viable, viable-run, capped-viable, viable-capped}
+use Rattle.capabilities_rules.proofs.Refusals.{inWord, news, run-on, words-on}
 
 -- an act that the cap lets through
 record Passing (p : Phase) (a : Act) : Type 0 where
@@ -146,7 +146,7 @@ module _ (room : ℕ) (s : List ℕ) (p : ℕ) (clear : Clear room p s) (h : p �
       go Begin is = on Begin is refl tt
       go Extend is = on Extend is refl tt
       go Skip is = on Skip is refl tt
-      go Refuse is = absurd (no-such (sym (run-stuck l is) ∙ viable-run (take (suc p) s) more .1))
+      go Refuse is = none-some (sym (run-stuck l is) ∙ viable-run (take (suc p) s) more .1)
 
   -- a byte that begins a word
   begun : (q : Phase) (κ : ByteKind) → Taken (act q κ) → news (inWord q) κ ≡ 1 → Begin ≡ act q κ
@@ -154,23 +154,32 @@ module _ (room : ℕ) (s : List ℕ) (p : ℕ) (clear : Clear room p s) (h : p �
   begun before Close h e = absurd (omega arith)
   begun before Space h e = absurd (omega arith)
   begun before Letter h e = absurd h
+  begun before Zero h e = absurd (omega arith)
   begun before Other h e = absurd (omega arith)
   begun (inside d Free) Open h e = absurd (omega arith)
   begun (inside d Free) Close h e = absurd (omega arith)
   begun (inside d Free) Space h e = absurd (omega arith)
   begun (inside d Free) Letter h e = refl
+  begun (inside d Free) Zero h e = absurd (omega arith)
   begun (inside d Free) Other h e = absurd (omega arith)
   begun (inside d Word) Open h e = absurd (omega arith)
   begun (inside d Word) Close h e = absurd (omega arith)
   begun (inside d Word) Space h e = absurd (omega arith)
   begun (inside d Word) Letter h e = absurd (omega arith)
+  begun (inside d Word) Zero h e = absurd (omega arith)
   begun (inside d Word) Other h e = absurd (omega arith)
   begun (inside d Gap) Open h e = absurd (omega arith)
   begun (inside d Gap) Close h e = absurd (omega arith)
   begun (inside d Gap) Space h e = absurd (omega arith)
   begun (inside d Gap) Letter h e = refl
+  begun (inside d Gap) Zero h e = absurd (omega arith)
   begun (inside d Gap) Other h e = absurd (omega arith)
-  begun after κ h e = absurd h
+  begun after Open h e = absurd h
+  begun after Close h e = absurd h
+  begun after Space h e = absurd h
+  begun after Letter h e = absurd h
+  begun after Zero h e = absurd (omega arith)
+  begun after Other h e = absurd h
 
   at-full : p < length s → wordsIn false (take p s) ≡ room → wordsIn false (take (suc p) s) ≡ suc room → ViableCapped (take (suc p) s) → outcome room s ≡ refused noNodeRoom p
   unfolding runBy wordsIn

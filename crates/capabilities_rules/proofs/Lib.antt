@@ -12,4 +12,6 @@ pub mod Exactly
 pub mod Words
 pub mod Theorems
 pub mod Demand2
+pub mod Zeros
 pub mod Refuted
+pub mod RefutedZeros

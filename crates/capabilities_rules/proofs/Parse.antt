@@ -7,12 +7,14 @@ use native.Mathlib.Omega.{arith}
 use lib.ListN.{length, length-append}
 use lib.Seq.{append-snoc}
 use Rattle.capabilities_rules.specs.Machine.{runBy, kindOf, Phase, before, inside, after, act, actOf, to, leaving, moved, run}
-use Rattle.capabilities_rules.specs.Grammar.{IsLetter, Letters, last, more, Spaces, no-space, one-space, Items, word, group, ListAt, ends, spaced, worded, grouped, Text, text}
+use Rattle.capabilities_rules.specs.Grammar.{IsLetter, Letters, last, more, Spaces, no-space, one-space, Items, word, group, ListAt, ends, spaced, worded, grouped, Text, text, Zeros, no-zero, one-zero}
 use Rattle.capabilities_rules.specs.Kinds.{ByteKind}
-use Rattle.capabilities_rules.specs.Kinds.{Open, Close, Space, Letter, Other}
+use Rattle.capabilities_rules.specs.Kinds.{Open, Close, Space, Letter, Zero, Other}
 use Rattle.capabilities_rules.specs.Kinds.{Mode}
 use Rattle.capabilities_rules.specs.Kinds.{Free, Word, Gap}
+use Rattle.capabilities_rules.specs.Kinds.{Act}
 use Rattle.capabilities_rules.proofs.Bytes.{KindIs, kind-is, space-apart}
+use Rattle.capabilities_rules.proofs.Whole.{Behind, is-zero, is-other, behind}
 
 -- t continues a list from a mode: from Free it is a list; within a word, or past a word and spaces, it is a list together with these
 abbrev pub Continues : Mode → ℕ → List ℕ → Type 0
@@ -75,15 +77,15 @@ inner-of k ih d at s h e =
       second = q .list .1;
     }
 
-no-move : {A : Type 0} → _≡_ {A = Option Phase} none (some after) → A
-no-move e = let z : _≡_ {A = ℕ} 0 1 = cc in absurd (omega arith)
+pub none-some : {A : Type 0} {q : Phase} → _≡_ {A = Option Phase} none (some q) → A
+none-some e = let z : _≡_ {A = ℕ} 0 1 = cc in absurd (omega arith)
 
 not-ended : {A : Type 0} (d : ℕ) (m : Mode) → _≡_ {A = Option Phase} (some (inside d m)) (some after) → A
 not-ended d m e = let z : _≡_ {A = ℕ} 0 1 = cc in absurd (omega arith)
 
 by-kind : (k : ℕ) → Shorter k → (d at : ℕ) (b : ℕ) (s : List ℕ) → length s ≤ k → (m : Mode) (κ : ByteKind) → KindIs b κ
     → moved (actOf m κ) (run (to (inside d m) (actOf m κ)) s) ≡ some after → Parsed d at m (b ∷ s)
-by-kind k ih d at b s h Free Open e r = no-move r
+by-kind k ih d at b s h Free Open e r = none-some r
 by-kind k ih d at b s h Free Close e r = record { part = []; rest = s; split = ap (λ (x : ℕ). x ∷ s) e; goes = r; list = (Items.none, ends) }
 by-kind k ih d at b s h Free Space e r =
     let p = ih s h d (at + 1) Free r in
@@ -91,7 +93,8 @@ by-kind k ih d at b s h Free Space e r =
 by-kind k ih d at b s h Free Letter e r =
     let p = ih s h d (at + 1) Word r in
     record { part = b ∷ p .part; rest = p .rest; split = ap (λ (l : List ℕ). b ∷ l) (p .split); goes = p .goes; list = p .list at (b ∷ []) (last e) refl }
-by-kind k ih d at b s h Free Other e r = no-move r
+by-kind k ih d at b s h Free Zero e r = none-some r
+by-kind k ih d at b s h Free Other e r = none-some r
 by-kind k ih d at b s h Word Open e r =
     let i = inner-of k ih d at s h r in
     record {
@@ -116,7 +119,8 @@ by-kind k ih d at b s h Word Letter e r =
           let q = p .list a (w ++ b ∷ []) (one-more-letter lw e) (omega (arith, length-append w (b ∷ []))) in
           (q .0, subst (λ (l : List ℕ). ListAt a (q .0) l) (append-snoc w b (p .part)) (q .1));
     }
-by-kind k ih d at b s h Word Other e r = no-move r
+by-kind k ih d at b s h Word Zero e r = none-some r
+by-kind k ih d at b s h Word Other e r = none-some r
 by-kind k ih d at b s h Gap Open e r =
     let i = inner-of k ih d at s h r in
     record {
@@ -155,7 +159,8 @@ by-kind k ih d at b s h Gap Letter e r =
           let q = p .list at (b ∷ []) (last e) refl in
           (word a (length w) (q .0), worded lw space-apart (spaced (spaces-before (a + length w + 1) at f sg (q .1))));
     }
-by-kind k ih d at b s h Gap Other e r = no-move r
+by-kind k ih d at b s h Gap Zero e r = none-some r
+by-kind k ih d at b s h Gap Other e r = none-some r
 
 none-left : Shorter 0
 unfolding runBy
@@ -174,15 +179,21 @@ parse (suc k) = one-left k (parse k)
 -- a text that the machine passes to its end is of the grammar
 first-kind : (b : ℕ) (s : List ℕ) (κ : ByteKind) → KindIs b κ → moved (act before κ) (run (to before (act before κ)) s) ≡ some after → (b ≡ 0x28) × (run (inside 0 Free) s ≡ some after)
 first-kind b s Open e r = (e, r)
-first-kind b s Close e r = no-move r
-first-kind b s Space e r = no-move r
-first-kind b s Letter e r = no-move r
-first-kind b s Other e r = no-move r
+first-kind b s Close e r = none-some r
+first-kind b s Space e r = none-some r
+first-kind b s Letter e r = none-some r
+first-kind b s Zero e r = none-some r
+first-kind b s Other e r = none-some r
 
-past-end : (s : List ℕ) → run after s ≡ some after → s ≡ []
+-- behind the outer group it passes zeros alone
+pub passes-zero : {b : ℕ} {a : Act} {r : Option Phase} {q : Phase} → Behind b a → moved a r ≡ some q → (b ≡ 0) × (r ≡ some q)
+passes-zero (is-zero z) e = (z, e)
+passes-zero is-other e = none-some e
+
+past-end : (s : List ℕ) → run after s ≡ some after → Zeros s
 unfolding runBy
-past-end [] e = refl
-past-end (b ∷ s) e = no-move e
+past-end [] e = no-zero
+past-end (b ∷ s) e = let f = passes-zero (behind b) e in subst (λ (x : ℕ). Zeros (x ∷ s)) (sym (f .0)) (one-zero (past-end s (f .1)))
 
 pub complete : (s : List ℕ) → run before s ≡ some after → (xs : Items) × Text xs s
 unfolding runBy
@@ -190,6 +201,5 @@ complete [] e = let z : _≡_ {A = ℕ} 0 1 = cc in absurd (omega arith)
 complete (b ∷ s) e =
     let f = first-kind b s (kindOf b) (kind-is b) e in
     let p = parse (length s) s (omega arith) 0 1 Free (f .1) in
-    let whole : 0x28 ∷ (p .part ++ 0x29 ∷ []) ≡ b ∷ s =
-    sym (ap₂ (λ (x : ℕ) (l : List ℕ). x ∷ l) (f .0) (p .split ∙ ap (λ (l : List ℕ). p .part ++ 0x29 ∷ l) (past-end (p .rest) (p .goes)))) in
-    (p .list .0, subst (Text (p .list .0)) whole (text (p .list .1)))
+    let whole : 0x28 ∷ (p .part ++ 0x29 ∷ p .rest) ≡ b ∷ s = sym (ap₂ (λ (x : ℕ) (l : List ℕ). x ∷ l) (f .0) (p .split)) in
+    (p .list .0, subst (Text (p .list .0)) whole (text (p .list .1) (past-end (p .rest) (p .goes))))

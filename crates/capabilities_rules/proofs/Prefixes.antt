@@ -21,11 +21,8 @@ use Rattle.capabilities_rules.specs.Kinds.{Act}
 use Rattle.capabilities_rules.specs.Kinds.{Enter, Leave, Begin, Extend, Skip, Refuse}
 use Rattle.capabilities_rules.proofs.Laws.{unless-read}
 use Rattle.capabilities_rules.proofs.Walk.{walk-text}
-use Rattle.capabilities_rules.proofs.Parse.{complete}
+use Rattle.capabilities_rules.proofs.Parse.{none-some, complete}
 use Rattle.capabilities_rules.proofs.Acceptance.{judge-run}
-
-pub none-some : {A : Type 0} {q : Phase} → _≡_ {A = Option Phase} none (some q) → A
-none-some e = let z : _≡_ {A = ℕ} 0 1 = cc in absurd (omega arith)
 
 -- ---- the capped machine and the judge, with room for as many nodes as there are bytes
 

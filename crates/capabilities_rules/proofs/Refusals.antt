@@ -16,7 +16,7 @@ use Rattle.capabilities_rules.specs.Machine.{kindOf, isLetter, Phase, be
 use Rattle.capabilities_rules.specs.Outcome.{judge, unless, fault, counted, refused, ending, outcome}
 use Rattle.capabilities_rules.specs.Prefixes.{nest, openAfter, wordsIn, Clear, Why, too-long, cut-short, wrong-byte, ninth-open, no-node}
 use Rattle.capabilities_rules.specs.Kinds.{ByteKind}
-use Rattle.capabilities_rules.specs.Kinds.{Open, Close, Space, Letter, Other}
+use Rattle.capabilities_rules.specs.Kinds.{Open, Close, Space, Letter, Zero, Other}
 use Rattle.capabilities_rules.specs.Kinds.{Free, Word, Gap}
 use Rattle.capabilities_rules.specs.Kinds.{Act}
 use Rattle.capabilities_rules.specs.Kinds.{Enter, Leave, Begin, Extend, Skip, Refuse}
@@ -25,6 +25,7 @@ use Rattle.capabilities_rules.specs.declared.Reading.the-variants.{Accep
 use Rattle.capabilities_rules.proofs.Whole.{outcome-short, outcome-long}
 use Rattle.capabilities_rules.proofs.Bytes.{KindIs, kind-is}
 use Rattle.capabilities_rules.proofs.Walk.{Taken, moved-taken, walk-text}
+use Rattle.capabilities_rules.proofs.Parse.{none-some}
 use Rattle.capabilities_rules.proofs.Prefixes.{run-viable, viable-run, capped-viable, viable-capped}
 
 -- whether the reader stands within a word
@@ -48,33 +49,42 @@ left-depth zero = refl
 left-depth (suc d) = refl
 
 -- a byte that is taken: the nodes, the word and the depth follow the bytes alone
-record Tracks (n : ℕ) (p : Phase) (κ : ByteKind) : Type 0 where
-  made : counted n (act p κ) ≡ n + news (inWord p) κ
-  within : inWord (to p (act p κ)) ≡ isLetter κ
-  deep : depth (to p (act p κ)) ≡ nest κ (depth p)
+pub record Tracks (n : ℕ) (p : Phase) (κ : ByteKind) : Type 0 where
+  pub made : counted n (act p κ) ≡ n + news (inWord p) κ
+  pub within : inWord (to p (act p κ)) ≡ isLetter κ
+  pub deep : depth (to p (act p κ)) ≡ nest κ (depth p)
 
-tracks : (n : ℕ) (p : Phase) (κ : ByteKind) → Taken (act p κ) → Tracks n p κ
+pub tracks : (n : ℕ) (p : Phase) (κ : ByteKind) → Taken (act p κ) → Tracks n p κ
 tracks n before Open h = record { made = omega arith; within = refl; deep = refl }
 tracks n before Close h = absurd h
 tracks n before Space h = absurd h
 tracks n before Letter h = absurd h
+tracks n before Zero h = absurd h
 tracks n before Other h = absurd h
 tracks n (inside d Free) Open h = absurd h
 tracks n (inside d Free) Close h = record { made = omega arith; within = left-word d; deep = omega (arith, left-depth d) }
 tracks n (inside d Free) Space h = record { made = omega arith; within = refl; deep = refl }
 tracks n (inside d Free) Letter h = record { made = refl; within = refl; deep = refl }
+tracks n (inside d Free) Zero h = absurd h
 tracks n (inside d Free) Other h = absurd h
 tracks n (inside d Word) Open h = record { made = omega arith; within = refl; deep = refl }
 tracks n (inside d Word) Close h = record { made = omega arith; within = left-word d; deep = omega (arith, left-depth d) }
 tracks n (inside d Word) Space h = record { made = omega arith; within = refl; deep = refl }
 tracks n (inside d Word) Letter h = record { made = omega arith; within = refl; deep = refl }
+tracks n (inside d Word) Zero h = absurd h
 tracks n (inside d Word) Other h = absurd h
 tracks n (inside d Gap) Open h = record { made = omega arith; within = refl; deep = refl }
 tracks n (inside d Gap) Close h = record { made = omega arith; within = left-word d; deep = omega (arith, left-depth d) }
 tracks n (inside d Gap) Space h = record { made = omega arith; within = refl; deep = refl }
 tracks n (inside d Gap) Letter h = record { made = refl; within = refl; deep = refl }
+tracks n (inside d Gap) Zero h = absurd h
 tracks n (inside d Gap) Other h = absurd h
-tracks n after κ h = absurd h
+tracks n after Open h = absurd h
+tracks n after Close h = absurd h
+tracks n after Space h = absurd h
+tracks n after Letter h = absurd h
+tracks n after Zero h = record { made = omega arith; within = refl; deep = refl }
+tracks n after Other h = absurd h
 
 -- why the machine stops at the byte j of s, where it stands at `end`
 data Reason (room n : ℕ) (p : Phase) (s : List ℕ) : ℕ → ℕ → Phase → Type 0 where
@@ -193,22 +203,27 @@ enter-open p b Open k e = k
 enter-open before b Close k e = other no-refuse e
 enter-open before b Space k e = other no-refuse e
 enter-open before b Letter k e = other no-refuse e
+enter-open before b Zero k e = other no-refuse e
 enter-open before b Other k e = other no-refuse e
 enter-open (inside d Free) b Close k e = other no-leave e
 enter-open (inside d Free) b Space k e = other no-skip e
 enter-open (inside d Free) b Letter k e = other no-begin e
+enter-open (inside d Free) b Zero k e = other no-refuse e
 enter-open (inside d Free) b Other k e = other no-refuse e
 enter-open (inside d Word) b Close k e = other no-leave e
 enter-open (inside d Word) b Space k e = other no-skip e
 enter-open (inside d Word) b Letter k e = other no-extend e
+enter-open (inside d Word) b Zero k e = other no-refuse e
 enter-open (inside d Word) b Other k e = other no-refuse e
 enter-open (inside d Gap) b Close k e = other no-leave e
 enter-open (inside d Gap) b Space k e = other no-skip e
 enter-open (inside d Gap) b Letter k e = other no-begin e
+enter-open (inside d Gap) b Zero k e = other no-refuse e
 enter-open (inside d Gap) b Other k e = other no-refuse e
 enter-open after b Close k e = other no-refuse e
 enter-open after b Space k e = other no-refuse e
 enter-open after b Letter k e = other no-refuse e
+enter-open after b Zero k e = other no-skip e
 enter-open after b Other k e = other no-refuse e
 
 on-act : (room at n : ℕ) (p : Phase) (b : ℕ) (s : List ℕ) (r : Reading) (a : Act) → a ≡ act p (kindOf b) → Found room (at + 1) (counted n a) (to p a) s r
@@ -247,9 +262,6 @@ found room (b ∷ s) at n p =
 
 -- ---- the refusals of a whole string
 
-pub no-such : {q : Phase} → _≡_ {A = Option Phase} none (some q) → ⊥
-no-such e = let z : _≡_ {A = ℕ} 0 1 = cc in omega arith
-
 stopped : (room : ℕ) (s : List ℕ) {k j : ℕ} → length s ≤ longestText → Stops room 0 before s k j → Why room s k j
 unfolding runBy
 stopped room s {j = j} short st =
@@ -261,10 +273,10 @@ stopped room s {j = j} short st =
         subst (λ (i : ℕ). Why room s wrongGrammar i) (sym l)
         (cut-short (subst (λ (i : ℕ). Clear room i s) l clear)
         (λ xs t. ne (let u : some (st .end) ≡ some after = sym (st .ran) ∙ ap (λ (x : List ℕ). run before x) (take-all j s (omega arith)) ∙ walk-text t .ran in cc)))
-    reason clear (bad l r) = wrong-byte clear l (λ v. no-such (sym r ∙ viable-run (take (suc j) s) v .1))
+    reason clear (bad l r) = wrong-byte clear l (λ v. none-some (sym r ∙ viable-run (take (suc j) s) v .1))
     reason clear (deep q l o d r c) =
         let low = st .shallow (omega arith) in
-        ninth-open clear l o (omega (arith, st .nested)) (run-viable (take (suc j) s) q r) (λ v. no-such (sym c ∙ viable-capped (take (suc j) s) v .1))
+        ninth-open clear l o (omega (arith, st .nested)) (run-viable (take (suc j) s) q r) (λ v. none-some (sym c ∙ viable-capped (take (suc j) s) v .1))
     reason clear (full q l m w c) =
         let roomy = clear .roomy in
         no-node clear l (omega arith) (omega arith) (capped-viable (take (suc j) s) q c)

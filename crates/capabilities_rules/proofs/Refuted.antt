@@ -8,7 +8,7 @@ use native.Mathlib.Omega.{arith}
 use lib.Dec.{leb, eqb}
 use lib.ListN.{length, getD, replicate, length-append, length-replicate}
 use borrow.Author.Tests.{le-leb}
-use Rattle.capabilities_rules.specs.Grammar.{none, word, ListAt, ends, spaced, worded, last, text, Fits, Node}
+use Rattle.capabilities_rules.specs.Grammar.{none, word, ListAt, ends, spaced, worded, last, no-zero, text, Fits, Node}
 use Rattle.capabilities_rules.specs.Machine.{before, kindOf}
 use Rattle.capabilities_rules.specs.Outcome.{told, refused, judge, outcome, isAccepted}
 use Rattle.capabilities_rules.specs.Nodes.{letters, opens, nodes, nodesOf}
@@ -21,7 +21,7 @@ use Rattle.capabilities_rules.proofs.Theorems.{theorems}
 use Rattle.capabilities_rules.proofs.Walk.{walk-text}
 
 -- no room at all
-abbrev bare : Buffers
+abbrev pub bare : Buffers
 bare = buffers [] [] [] []
 
 -- ---- a reader that refuses everything
@@ -31,7 +31,7 @@ refusesAll s t t′ r = (r ≡ refused 13 0) × (t′ ≡ t)
 
 -- "()" fits
 empty-fits : Fits 0 (0x28 ∷ 0x29 ∷ []) none
-empty-fits = record { grammar = text ends; deep = omega arith; roomy = omega arith; short = omega arith }
+empty-fits = record { grammar = text ends no-zero; deep = omega arith; roomy = omega arith; short = omega arith }
 
 pub no-refuser : Demand2 refusesAll → ⊥
 no-refuser h =
@@ -54,7 +54,7 @@ all-spaces (suc n) at = spaced (all-spaces n (at + 1))
 
 spacious-accepted : (room n : ℕ) → judge room 0 0 before (spacious n) ≡ Accepted 0
 unfolding judge
-spacious-accepted room n = walk-text (text (all-spaces n 1)) .judged room (omega arith) (omega arith)
+spacious-accepted room n = walk-text (text (all-spaces n 1) no-zero) .judged room (omega arith) (omega arith)
 
 spacious-length : (n : ℕ) → length (spacious n) ≡ n + 2
 spacious-length n = simp (length-append, length-replicate) (omega arith)
@@ -154,7 +154,7 @@ joins s t t′ r = (r ≡ outcome (bufferRoom t) (map joined s)) × (t′ ≡ wr
 
 -- "( )" fits
 gap-fits : Fits 0 (0x28 ∷ 0x20 ∷ 0x29 ∷ []) none
-gap-fits = record { grammar = text (spaced ends); deep = omega arith; roomy = omega arith; short = omega arith }
+gap-fits = record { grammar = text (spaced ends) no-zero; deep = omega arith; roomy = omega arith; short = omega arith }
 
 pub no-joining : Demand2 joins → ⊥
 unfolding outcome judge kindOf
@@ -172,12 +172,12 @@ abbrev lowers : Promise
 lowers s t t′ r = (r ≡ outcome (bufferRoom t) s) × (t′ ≡ written (told r .number) (map lowered (nodesOf s)) t)
 
 -- room for one node
-abbrev single : Buffers
+abbrev pub single : Buffers
 single = buffers (0 ∷ []) (0 ∷ []) (0 ∷ []) (0 ∷ [])
 
 -- "(a)" fits
 word-fits : Fits 1 (0x28 ∷ 0x61 ∷ 0x29 ∷ []) (word 1 1 none)
-word-fits = record { grammar = text (worded (last {b = 0x61} (record { low = omega arith; high = omega arith; no-open = λ e. omega arith; no-close = λ e. omega arith })) tt ends); deep = omega arith; roomy = omega arith; short = omega arith }
+word-fits = record { grammar = text (worded (last {b = 0x61} (record { low = omega arith; high = omega arith; no-open = λ e. omega arith; no-close = λ e. omega arith })) tt ends) no-zero; deep = omega arith; roomy = omega arith; short = omega arith }
 
 pub no-lowering : Demand2 lowers → ⊥
 unfolding outcome judge kindOf letters opens nodes nodesOf

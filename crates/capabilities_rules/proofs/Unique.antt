@@ -105,4 +105,4 @@ pub unique : {xs ys : Items} {s : List ℕ} → Text xs s → Text ys s → xs �
 unique {s = s} x y = go x y refl
   where
     go : {xs ys : Items} {s s′ : List ℕ} → Text xs s → Text ys s′ → s ≡ s′ → xs ≡ ys
-    go (text p) (text q) e = unique-list p q [] [] (ap (drop 1) e) .0
+    go (text {z = z} p zs) (text {z = y} q ys) e = unique-list p q z y (ap (drop 1) e) .0

@@ -3,7 +3,7 @@
 use Prim.Native.Nat.{ℕ, suc, _+_, _≤_, max}
 use mathlib.Core.Path.{_≡_, refl, sym, ap, _∙_, subst}
 use mathlib.Core.Bool.{Bool, true, cond}
-use mathlib.Core.List.{List, [], _∷_, _++_, append-assoc}
+use mathlib.Core.List.{List, [], _∷_, _++_, append-assoc, append-nil}
 use mathlib.Core.Option.{Option, none}
 use native.Mathlib.Numerals.{add-one}
 use native.Mathlib.Omega.{arith}
@@ -15,7 +15,7 @@ use Rattle.capabilities_rules.specs.Limits.{deepest, noParent}
 use Rattle.capabilities_rules.specs.Machine.{runBy, kindOf, isLetter, Phase, before, inside, after, act, actOf, to, depth, leaving, pauseOf, moved, run}
 use Rattle.capabilities_rules.specs.Outcome.{judge, unless, fault, counted, isAccepted}
 use Rattle.capabilities_rules.specs.Nodes.{nodes, nodeAt, begun, stack, top, latest, letters, opens, opened}
-use Rattle.capabilities_rules.specs.Grammar.{Node, IsLetter, Letters, last, more, Spaces, no-space, one-space, Apart, Items, word, group, ListAt, ends, spaced, worded, grouped, Text, text, levels, size, nodesFrom}
+use Rattle.capabilities_rules.specs.Grammar.{Node, IsLetter, Letters, last, more, Spaces, no-space, one-space, Apart, Items, word, group, ListAt, ends, spaced, worded, grouped, Text, text, Zeros, no-zero, one-zero, levels, size, nodesFrom}
 use Rattle.capabilities_rules.specs.Kinds.{ByteKind}
 use Rattle.capabilities_rules.specs.Kinds.{Close, Space, Letter}
 use Rattle.capabilities_rules.specs.Kinds.{Mode}
@@ -281,8 +281,17 @@ walk (grouped {at = at} {w = w} {g = g} {t = t} {s = u} {ys = ys} {xs = xs} lw s
 
 -- ---- a text
 
+-- zeros behind the outer group make no node, and none is refused
+stays : (at n : ℕ) → Leads at n [] after [] at n [] after [] [] 0
+stays at n = record { grows = omega arith; ran = refl; noded = refl; judged = λ room h k. refl; bounded = λ room r. (omega arith, (λ h. h), r) }
+
+walk-zeros : {z : List ℕ} (at n : ℕ) → Zeros z → Leads at n [] after z (at + length z) n [] after [] [] 0
+unfolding kindOf
+walk-zeros at n no-zero = reindex (stays at n) refl (omega arith) refl refl refl
+walk-zeros at n (one-zero {z = z} sz) = reindex (join (step at n [] after 0 z Skip tt refl) (walk-zeros (at + 1) n sz)) refl (omega arith) refl refl refl
+
 pub walk-text : {xs : Items} {s : List ℕ} → Text xs s → Leads 0 0 [] before s (length s) (size xs) [] after [] (nodesFrom noParent 0 xs) (levels xs)
 unfolding kindOf
-walk-text (text {xs = xs} {t = t} r) =
-    reindex (join (step 0 0 [] before 0x28 (t ++ 0x29 ∷ []) Enter tt refl) (walk r Free free-word 0 noParent [] 0 []))
-    refl (omega (arith, length-append t (0x29 ∷ []))) (omega arith) refl (omega (arith, enters-levels 0 xs))
+walk-text (text {xs = xs} {t = t} {z = z} r sz) =
+    reindex (join (join (step 0 0 [] before 0x28 (t ++ 0x29 ∷ z) Enter tt refl) (walk r Free free-word 0 noParent [] 0 z)) (walk-zeros (0 + 1 + length t + 1) (0 + size xs) sz))
+    refl (omega (arith, length-append t (0x29 ∷ z))) (omega arith) (append-nil (nodesFrom noParent 0 xs)) (omega (arith, enters-levels 0 xs))

@@ -14,7 +14,7 @@ use Rattle.capabilities_rules.specs.Machine.{kindOf, Phase, before, insi
 use Rattle.capabilities_rules.specs.Outcome.{judge, unless, fault, counted, refused, ending, outcome, isAccepted}
 use Rattle.capabilities_rules.specs.Nodes.{nodes, nodeAt, begun, stack, top, latest}
 use Rattle.capabilities_rules.specs.Grammar.{Node}
-use Rattle.capabilities_rules.specs.Kinds.{Open, Close, Space, Letter, Other}
+use Rattle.capabilities_rules.specs.Kinds.{Open, Close, Space, Letter, Zero, Other}
 use Rattle.capabilities_rules.specs.Kinds.{Free}
 use Rattle.capabilities_rules.specs.Kinds.{Act}
 use Rattle.capabilities_rules.specs.Kinds.{Enter, Leave, Begin, Extend, Skip, Refuse}
@@ -34,10 +34,35 @@ shut b Open k ne = absurd (ne k)
 shut b Close k ne = refl
 shut b Space k ne = refl
 shut b Letter k ne = refl
+shut b Zero k ne = refl
 shut b Other k ne = refl
 
 pub no-opening : (b : ℕ) → (b ≡ 0x28 → ⊥) → Refuse ≡ act before (kindOf b)
 no-opening b ne = shut b (kindOf b) (kind-is b) ne
+
+-- what a byte does behind the outer group: a zero is skipped, any other refused
+pub data Behind (b : ℕ) : Act → Type 0 where
+  is-zero : b ≡ 0 → Behind b Skip
+  is-other : Behind b Refuse
+
+behind-kind : (b : ℕ) (κ : ByteKind) → KindIs b κ → Behind b (act after κ)
+behind-kind b Open k = is-other
+behind-kind b Close k = is-other
+behind-kind b Space k = is-other
+behind-kind b Letter k = is-other
+behind-kind b Zero k = is-zero k
+behind-kind b Other k = is-other
+
+pub behind : (b : ℕ) → Behind b (act after (kindOf b))
+behind b = behind-kind b (kindOf b) (kind-is b)
+
+zero-skipped : (b : ℕ) → b ≡ 0 → Skip ≡ act after (kindOf b)
+unfolding kindOf
+zero-skipped b e = sym (ap (λ (x : ℕ). act after (kindOf x)) e)
+
+other-refused : {b : ℕ} {a : Act} → Behind b a → (b ≡ 0 → ⊥) → Refuse ≡ a
+other-refused (is-zero e) ne = absurd (ne e)
+other-refused is-other ne = refl
 
 module _ (room : ℕ) (s : List ℕ) where
   pub outcome-long : longestText < length s → outcome room s ≡ refused textTooLong 0
@@ -61,9 +86,12 @@ module _ (room : ℕ) (s : List ℕ) where
   pub nodes-open : 0 < length s → getD s 0 0 ≡ 0x28 → nodes 0 0 [] before s ≡ nodes 1 0 (noParent ∷ []) (inside 0 Free) (drop 1 s)
   nodes-open h e = nodes-at 0 0 [] before s Enter h (opening (getD s 0 0) e)
 
-  -- past the outer group nothing may follow
-  pub judge-more : (at n : ℕ) → at < length s → judge room at n after (drop at s) ≡ refused wrongGrammar at
-  judge-more at n h = judge-at room at n after s Refuse h refl
+  -- past the outer group only 00 may follow
+  pub judge-more : (at n : ℕ) → at < length s → (getD s at 0 ≡ 0 → ⊥) → judge room at n after (drop at s) ≡ refused wrongGrammar at
+  judge-more at n h ne = judge-at room at n after s Refuse h (other-refused (behind (getD s at 0)) ne)
+
+  pub judge-zero : (at n : ℕ) → at < length s → getD s at 0 ≡ 0 → judge room at n after (drop at s) ≡ judge room (at + 1) n after (drop (at + 1) s)
+  judge-zero at n h e = judge-at room at n after s Skip h (zero-skipped (getD s at 0) e)
 
   pub judge-done : (at n : ℕ) → length s ≤ at → judge room at n after (drop at s) ≡ Accepted n
   unfolding judge
@@ -134,12 +162,14 @@ accepted room n s e = length-of (leb (length s) longestText) refl
     length-of true f = any (leb-true (length s) longestText f) (leb 1 (length s)) refl
     length-of false f = not-refused textTooLong 0 n (outcome room s) (outcome-long room s (leb-false (length s) longestText f)) e
 
--- past the outer group of an accepted text there is nothing
-pub at-end : (room at n : ℕ) (s : List ℕ) → isAccepted (judge room at n after (drop at s)) ≡ true → length s ≤ at
-at-end room at n s r = go (leb (length s) at) refl
-  where
-    go : (t : Bool) → leb (length s) at ≡ t → length s ≤ at
-    go true f = leb-true (length s) at f
-    go false f =
-        let z : false ≡ true = sym (ap isAccepted (judge-more room s at n (leb-false (length s) at f))) ∙ r in
-        let z′ : _≡_ {A = ℕ} 0 1 = cc in absurd (omega arith)
+-- past the outer group there are no nodes
+none-begun : {b : ℕ} {a : Act} → Behind b a → (x : Node) (r : List Node) → r ≡ [] → begun a x r ≡ []
+none-begun (is-zero z) x r e = e
+none-begun is-other x r e = refl
+
+pub nodes-past : (s : List ℕ) (at n : ℕ) (ps : List ℕ) → nodes at n ps after s ≡ []
+unfolding nodes
+nodes-past [] at n ps = refl
+nodes-past (b ∷ s) at n ps =
+    let a : Act = act after (kindOf b) in
+    none-begun (behind b) (nodeAt at (top ps) (b ∷ s)) (nodes (at + 1) (counted n a) (stack a n ps) after s) (nodes-past s (at + 1) (counted n a) (stack a n ps))

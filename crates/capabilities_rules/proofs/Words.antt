@@ -8,7 +8,7 @@ use native.Mathlib.Nat.{zero-add}
 use native.Mathlib.Omega.{arith}
 use lib.ListN.{length, length-append}
 use lib.Seq.{append-snoc}
-use Rattle.capabilities_rules.specs.Grammar.{IsLetter, Letters, last, more, Spaces, no-space, one-space, Apart, Items, ListAt, ends, spaced, worded, grouped, Text, text, size}
+use Rattle.capabilities_rules.specs.Grammar.{IsLetter, Letters, last, more, Spaces, no-space, one-space, Apart, Items, ListAt, ends, spaced, worded, grouped, Zeros, no-zero, one-zero, Text, text, size}
 use Rattle.capabilities_rules.specs.Machine.{kindOf, isLetter}
 use Rattle.capabilities_rules.specs.Prefixes.{wordsIn}
 use Rattle.capabilities_rules.specs.Words.{lastOf, LongestRun, EachWord}
@@ -72,7 +72,7 @@ longest-list (grouped {w = w} {g = g} {t = t} {s = u} lw sg q r) pre post s e n 
     )
 
 pub longest : (s : List ℕ) (xs : Items) → Text xs s → EachWord (LongestRun s) xs
-longest s xs (text r) = longest-list r (0x28 ∷ []) [] s refl refl (λ l. absurd (open-apart l))
+longest s xs (text {z = z} r sz) = longest-list r (0x28 ∷ []) z s refl refl (λ l. absurd (open-apart l))
 
 -- ---- as many words as runs
 
@@ -116,6 +116,11 @@ words-list (grouped {w = w} {g = g} {t = t} {s = u} {ys = ys} {xs = xs} lw sg q 
     let rest = words-list r false no-run post in
     omega arith
 
+words-zeros : {z : List ℕ} → Zeros z → wordsIn false z ≡ 0
+unfolding wordsIn kindOf
+words-zeros no-zero = refl
+words-zeros (one-zero sz) = zero-add _ ∙ words-zeros sz
+
 pub runs : (s : List ℕ) (xs : Items) → Text xs s → wordsIn false s ≡ size xs
 unfolding wordsIn kindOf
-runs s xs (text r) = zero-add _ ∙ words-list r false no-run [] ∙ omega arith
+runs s xs (text {z = z} r sz) = zero-add _ ∙ words-list r false no-run z ∙ omega (arith, words-zeros sz)

@@ -1,4 +1,4 @@
--- Document 01, "Capability text": the grammar, sentence by sentence, and the nodes of its one tree.
+-- Document 01, "Capability text", with the zero bytes of document 02, K2: the grammar, sentence by sentence, and the nodes of its one tree.
 use Prim.Native.Nat.{ℕ, suc, _+_, _≤_, max}
 use mathlib.Core.Path.{_≡_}
 use mathlib.Core.List.{List, [], _∷_, _++_}
@@ -43,9 +43,16 @@ pub data ListAt : ℕ → Items → List ℕ → Type 0 where
       → ListAt (at + length w + length g + 1 + length t + 1) xs s
       → ListAt at (group at (length w) ys xs) (w ++ (g ++ 0x28 ∷ (t ++ 0x29 ∷ s)))
 
--- "A text is one group and nothing else. A group is "(", a list, ")"." `Text xs s`: s is a text whose words are xs.
+-- "any number of 00 bytes"
+pub data Zeros : List ℕ → Type 0 where
+  no-zero : Zeros []
+  one-zero : {z : List ℕ} → Zeros z → Zeros (0 ∷ z)
+
+-- "A text is one group and nothing else. A group is "(", a list, ")".", as document 02, K2, mends it: "after the outer
+-- group any number of 00 bytes may follow, and nothing else. They make no node."
+-- `Text xs s`: s is a text whose words are xs.
 pub data Text : Items → List ℕ → Type 0 where
-  text : {xs : Items} {t : List ℕ} → ListAt 1 xs t → Text xs (0x28 ∷ (t ++ 0x29 ∷ []))
+  text : {xs : Items} {t z : List ℕ} → ListAt 1 xs t → Zeros z → Text xs (0x28 ∷ (t ++ 0x29 ∷ z))
 
 -- how deep the groups nest, "the outer being 1"
 abbrev pub levels : Items → ℕ

@@ -6,6 +6,7 @@ pub data ByteKind : Type 0 where
   Close : ByteKind
   Space : ByteKind
   Letter : ByteKind
+  Zero : ByteKind
   Other : ByteKind
 
 -- where a reader stands in a group: with no word that could take a group, within a word, or past a word and spaces

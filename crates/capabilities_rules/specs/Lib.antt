@@ -9,3 +9,4 @@ pub mod Prefixes
 pub mod Words
 pub mod Theorems
 pub mod Demand2
+pub mod Zeros

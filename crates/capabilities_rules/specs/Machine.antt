@@ -7,25 +7,27 @@ use mathlib.Core.Option.{Option, none, some}
 use lib.Dec.{leb, eqb}
 use Rattle.capabilities_rules.specs.Limits.{deepest}
 use Rattle.capabilities_rules.specs.Kinds.{ByteKind}
-use Rattle.capabilities_rules.specs.Kinds.{Open, Close, Space, Letter, Other}
+use Rattle.capabilities_rules.specs.Kinds.{Open, Close, Space, Letter, Zero, Other}
 use Rattle.capabilities_rules.specs.Kinds.{Mode}
 use Rattle.capabilities_rules.specs.Kinds.{Free, Word, Gap}
 use Rattle.capabilities_rules.specs.Kinds.{Act}
 use Rattle.capabilities_rules.specs.Kinds.{Enter, Leave, Begin, Extend, Skip, Refuse}
 
--- "(" is 28, ")" is 29, a space 20; a letter is any other byte from 21 to 7E
+-- "(" is 28, ")" is 29, a space 20, a zero byte 00; a letter is any other byte from 21 to 7E
 unfoldable pub kindOf : ℕ → ByteKind
 kindOf b =
     cond (eqb b 0x28) Open
     (cond (eqb b 0x29) Close
     (cond (eqb b 0x20) Space
-    (cond (leb 0x21 b && leb b 0x7e) Letter Other)))
+    (cond (leb 0x21 b && leb b 0x7e) Letter
+    (cond (eqb b 0) Zero Other))))
 
 abbrev pub isLetter : ByteKind → Bool
 isLetter Open = false
 isLetter Close = false
 isLetter Space = false
 isLetter Letter = true
+isLetter Zero = false
 isLetter Other = false
 
 -- What a byte does in a group. Free: no word stands there that could take a group; Word: within a word; Gap: past a word
@@ -35,16 +37,19 @@ actOf Free Open = Refuse
 actOf Free Close = Leave
 actOf Free Space = Skip
 actOf Free Letter = Begin
+actOf Free Zero = Refuse
 actOf Free Other = Refuse
 actOf Word Open = Enter
 actOf Word Close = Leave
 actOf Word Space = Skip
 actOf Word Letter = Extend
+actOf Word Zero = Refuse
 actOf Word Other = Refuse
 actOf Gap Open = Enter
 actOf Gap Close = Leave
 actOf Gap Space = Skip
 actOf Gap Letter = Begin
+actOf Gap Zero = Refuse
 actOf Gap Other = Refuse
 
 -- the mode after a space
@@ -60,15 +65,21 @@ pub data Phase : Type 0 where
   inside : ℕ → Mode → Phase
   after : Phase
 
--- what a byte of kind k does; Refuse where it cannot stand
+-- what a byte of kind k does; Refuse where it cannot stand. Behind the outer group only zero bytes can, and they are skipped.
 abbrev pub act : Phase → ByteKind → Act
 act before Open = Enter
 act before Close = Refuse
 act before Space = Refuse
 act before Letter = Refuse
+act before Zero = Refuse
 act before Other = Refuse
 act (inside d m) k = actOf m k
-act after k = Refuse
+act after Open = Refuse
+act after Close = Refuse
+act after Space = Refuse
+act after Letter = Refuse
+act after Zero = Skip
+act after Other = Refuse
 
 -- past a ")" that d groups stand around
 abbrev pub leaving : ℕ → Phase

@@ -8,7 +8,7 @@ use Rattle.capabilities_rules.specs.Grammar.{Node}
 use Rattle.capabilities_rules.specs.Machine.{kindOf, isLetter, Phase, before, act, to}
 use Rattle.capabilities_rules.specs.Outcome.{counted}
 use Rattle.capabilities_rules.specs.Kinds.{ByteKind}
-use Rattle.capabilities_rules.specs.Kinds.{Open, Close, Space, Letter, Other}
+use Rattle.capabilities_rules.specs.Kinds.{Open, Close, Space, Letter, Zero, Other}
 use Rattle.capabilities_rules.specs.Kinds.{Act}
 use Rattle.capabilities_rules.specs.Kinds.{Enter, Leave, Begin, Extend, Skip, Refuse}
 
@@ -22,6 +22,7 @@ opened Open rest = 1
 opened Close rest = 0
 opened Space rest = rest
 opened Letter rest = 0
+opened Zero rest = 0
 opened Other rest = 0
 
 -- 1 if the first byte past any spaces is "(", else 0

@@ -10,7 +10,7 @@ use lib.ListN.{length, getD, take}
 use Rattle.capabilities_rules.specs.Grammar.{Items, Text, levels}
 use Rattle.capabilities_rules.specs.Machine.{kindOf, isLetter}
 use Rattle.capabilities_rules.specs.Kinds.{ByteKind}
-use Rattle.capabilities_rules.specs.Kinds.{Open, Close, Space, Letter, Other}
+use Rattle.capabilities_rules.specs.Kinds.{Open, Close, Space, Letter, Zero, Other}
 
 -- s could still begin a text, with depth, length and room unlimited
 abbrev pub Viable : List ℕ → Type 0
@@ -26,6 +26,7 @@ nest Open d = suc d
 nest Close d = d - 1
 nest Space d = d
 nest Letter d = d
+nest Zero d = d
 nest Other d = d
 
 -- how many brackets are open at once after the bytes s, where d are open before them

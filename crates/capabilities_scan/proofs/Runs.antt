@@ -1,4 +1,4 @@
--- Runs of letters and of spaces: how long they are, and that the machine passes them with no node made and nothing refused.
+-- Runs of letters, of spaces and of zeros: how long they are, and that the machine passes them with no node made and nothing refused.
 use Prim.Native.Nat.{ℕ, zero, suc, _+_, _≤_, _<_}
 use mathlib.Core.Path.{_≡_, refl, sym, ap, _∙_, subst}
 use mathlib.Core.Bool.{Bool, true, false, cond}
@@ -7,38 +7,41 @@ use native.Mathlib.Omega.{arith}
 use lib.Dec.{eqb, leb}
 use lib.ListN.{length, getD, drop, drop-of-length-le, List·getD-eq-default}
 use borrow.Author.Tests.{leb-true, leb-false, eqb-true, eqb-false}
-use Rattle.capabilities_rules.specs.Machine.{kindOf, isLetter, inside, actOf, pauseOf}
-use Rattle.capabilities_rules.specs.Outcome.{judge}
+use Rattle.capabilities_rules.specs.Machine.{kindOf, isLetter, inside, after, actOf, pauseOf}
+use Rattle.message_rules.specs.Answer.{wrongGrammar}
+use Rattle.capabilities_rules.specs.Outcome.{judge, refused}
+use Rattle.capabilities_rules.specs.declared.Reading.the-variants.{Accepted}
 use Rattle.capabilities_rules.specs.Grammar.{IsLetter}
 use Rattle.capabilities_rules.specs.Nodes.{letters, nodes}
 use Rattle.capabilities_rules.specs.Kinds.{ByteKind}
-use Rattle.capabilities_rules.specs.Kinds.{Open, Close, Space, Letter, Other}
+use Rattle.capabilities_rules.specs.Kinds.{Open, Close, Space, Letter, Zero, Other}
 use Rattle.capabilities_rules.specs.Kinds.{Mode}
 use Rattle.capabilities_rules.specs.Kinds.{Free, Word, Gap}
 use Rattle.capabilities_rules.specs.Kinds.{Act}
 use Rattle.capabilities_rules.specs.Kinds.{Enter, Leave, Begin, Extend, Skip, Refuse}
 use Rattle.capabilities_rules.proofs.Laws.{from, letters-at, letters-end, judge-at, nodes-at, judge-end}
+use Rattle.capabilities_rules.proofs.Whole.{judge-zero, judge-more, judge-done}
 use Rattle.capabilities_rules.proofs.Bytes.{KindIs, kind-is, letter-kind}
-use Rattle.capabilities_scan.specs.Scan.{spaces}
+use Rattle.capabilities_scan.specs.Scan.{leading, spaces, zeros}
 
 -- ---- how long a run is
 
--- the spaces from a position on: one more where a space stands, none else
-pub spaces-at : (s : List ℕ) (at : ℕ) (t : Bool) → at < length s → t ≡ eqb (getD s at 0) 0x20 → spaces (drop at s) ≡ cond t (spaces (drop (at + 1) s) + 1) 0
-unfolding spaces
-spaces-at s at t h e = ap spaces (from s at h) ∙ ap (λ (x : Bool). cond x (spaces (drop (at + 1) s) + 1) 0) (sym e)
+-- the bytes b from a position on: one more where b stands, none else
+pub leading-at : (b : ℕ) (s : List ℕ) (at : ℕ) (t : Bool) → at < length s → t ≡ eqb (getD s at 0) b → leading b (drop at s) ≡ cond t (leading b (drop (at + 1) s) + 1) 0
+unfolding leading
+leading-at b s at t h e = ap (leading b) (from s at h) ∙ ap (λ (x : Bool). cond x (leading b (drop (at + 1) s) + 1) 0) (sym e)
 
-pub spaces-end : (s : List ℕ) (at : ℕ) → length s ≤ at → spaces (drop at s) ≡ 0
-unfolding spaces
-spaces-end s at h = ap spaces (drop-of-length-le s h)
+pub leading-end : (b : ℕ) (s : List ℕ) (at : ℕ) → length s ≤ at → leading b (drop at s) ≡ 0
+unfolding leading
+leading-end b s at h = ap (leading b) (drop-of-length-le s h)
 
 -- a count of the bytes of one sort that a list begins with
 pub record Counts (count : List ℕ → ℕ) (test : ℕ → Bool) : Type 0 where
   pub here : (s : List ℕ) (at : ℕ) (t : Bool) → at < length s → t ≡ test (getD s at 0) → count (drop at s) ≡ cond t (count (drop (at + 1) s) + 1) 0
   pub past : (s : List ℕ) (at : ℕ) → length s ≤ at → count (drop at s) ≡ 0
 
-pub counts-spaces : Counts spaces (λ b. eqb b 0x20)
-counts-spaces = record { here = spaces-at; past = spaces-end }
+pub counts-leading : (b : ℕ) → Counts (leading b) (λ c. eqb c b)
+counts-leading b = record { here = leading-at b; past = leading-end b }
 
 pub counts-letters : Counts letters (λ b. isLetter (kindOf b))
 counts-letters = record { here = letters-at; past = letters-end }
@@ -127,6 +130,7 @@ module _ (d : ℕ) (s : List ℕ) where
   extends Open e = let z : _≡_ {A = ℕ} 0 1 = cc in absurd (omega arith)
   extends Close e = let z : _≡_ {A = ℕ} 0 1 = cc in absurd (omega arith)
   extends Space e = let z : _≡_ {A = ℕ} 0 1 = cc in absurd (omega arith)
+  extends Zero e = let z : _≡_ {A = ℕ} 0 1 = cc in absurd (omega arith)
   extends Other e = let z : _≡_ {A = ℕ} 0 1 = cc in absurd (omega arith)
 
   skips : (b : ℕ) (m : Mode) → b ≡ 0x20 → Skip ≡ actOf m (kindOf b)
@@ -144,7 +148,7 @@ module _ (d : ℕ) (s : List ℕ) where
   pub spaces-pass : (k at : ℕ) (m : Mode) → spaces (drop at s) ≡ k → Passes d s at m (at + k) (rested k m)
   spaces-pass zero at m e = arrive (omega arith) refl (stay at m)
   spaces-pass (suc k) at m e =
-      let f = first-of spaces (λ b. eqb b 0x20) counts-spaces s at k e in
+      let f = first-of spaces (λ b. eqb b 0x20) (counts-leading 0x20) s at k e in
       arrive (omega arith) (rested-pause k m) (join (skip-one at m (f .inside) (skips (getD s at 0) m (eqb-true (getD s at 0) 0x20 (f .is)))) (spaces-pass k (at + 1) (pauseOf m) (f .rest)))
 
   -- spaces where no word could take a group
@@ -171,8 +175,11 @@ module _ (d : ℕ) (s : List ℕ) where
   same-act b Free Letter k shut ns nl = (refl, λ e. let z : _≡_ {A = ℕ} 0 1 = cc in omega arith)
   same-act b Word Letter k shut ns nl = absurd (nl refl k)
   same-act b Gap Letter k shut ns nl = (refl, λ e. let z : _≡_ {A = ℕ} 0 1 = cc in omega arith)
+  same-act b Free Zero k shut ns nl = (refl, λ e. let z : _≡_ {A = ℕ} 0 1 = cc in omega arith)
   same-act b Free Other k shut ns nl = (refl, λ e. let z : _≡_ {A = ℕ} 0 1 = cc in omega arith)
+  same-act b Word Zero k shut ns nl = (refl, λ e. let z : _≡_ {A = ℕ} 0 1 = cc in omega arith)
   same-act b Word Other k shut ns nl = (refl, λ e. let z : _≡_ {A = ℕ} 0 1 = cc in omega arith)
+  same-act b Gap Zero k shut ns nl = (refl, λ e. let z : _≡_ {A = ℕ} 0 1 = cc in omega arith)
   same-act b Gap Other k shut ns nl = (refl, λ e. let z : _≡_ {A = ℕ} 0 1 = cc in omega arith)
 
   at-end : (at : ℕ) (m : Mode) → length s ≤ at → Passes d s at m at Free
@@ -195,7 +202,7 @@ module _ (d : ℕ) (s : List ℕ) where
       go true f = at-end at m (leb-true (length s) at f)
       go false f =
           let h : at < length s = leb-false (length s) at f in
-          let space : getD s at 0 ≡ 0x20 → ⊥ = eqb-false (getD s at 0) 0x20 (none-here spaces (λ b. eqb b 0x20) counts-spaces s at h ns) in
+          let space : getD s at 0 ≡ 0x20 → ⊥ = eqb-false (getD s at 0) 0x20 (none-here spaces (λ b. eqb b 0x20) (counts-leading 0x20) s at h ns) in
           let x = same-act (getD s at 0) m (kindOf (getD s at 0)) (kind-is (getD s at 0)) shut space (no-letter h) in
           calm at m (actOf Free (kindOf (getD s at 0))) h (x .0) refl (x .1)
 
@@ -213,6 +220,7 @@ begins-free Letter e = refl
 begins-free Open e = let z : _≡_ {A = ℕ} 0 1 = cc in absurd (omega arith)
 begins-free Close e = let z : _≡_ {A = ℕ} 0 1 = cc in absurd (omega arith)
 begins-free Space e = let z : _≡_ {A = ℕ} 0 1 = cc in absurd (omega arith)
+begins-free Zero e = let z : _≡_ {A = ℕ} 0 1 = cc in absurd (omega arith)
 begins-free Other e = let z : _≡_ {A = ℕ} 0 1 = cc in absurd (omega arith)
 
 module _ (s : List ℕ) (at end next : ℕ) (w : Passed s at end next) where
@@ -224,7 +232,7 @@ module _ (s : List ℕ) (at end next : ℕ) (w : Passed s at end next) where
   begins = begins-free (kindOf (getD s at 0)) (w .letter)
 
   pub no-spaces : spaces (drop next s) ≡ 0
-  no-spaces = subst (λ (i : ℕ). spaces (drop i s) ≡ 0) (sym (w .rests)) (run-over spaces (λ b. eqb b 0x20) counts-spaces s (spaces (drop end s)) end refl)
+  no-spaces = subst (λ (i : ℕ). spaces (drop i s) ≡ 0) (sym (w .rests)) (run-over spaces (λ b. eqb b 0x20) (counts-leading 0x20) s (spaces (drop end s)) end refl)
 
   pub passed : (d : ℕ) → Passes d s (at + 1) Word next behind
   passed d = join d s (arrive d s (sym (w .ends)) refl (letters-pass d s (letters (drop (at + 1) s)) (at + 1) refl))
@@ -259,11 +267,11 @@ within s at e = go (leb (length s) at) refl
 
 -- past the spaces at the front of a list there is none
 pub tight-after : (s : List ℕ) (at next : ℕ) → next ≡ at + spaces (drop at s) → spaces (drop next s) ≡ 0
-tight-after s at next e = subst (λ (i : ℕ). spaces (drop i s) ≡ 0) (sym e) (run-over spaces (λ b. eqb b 0x20) counts-spaces s (spaces (drop at s)) at refl)
+tight-after s at next e = subst (λ (i : ℕ). spaces (drop i s) ≡ 0) (sym e) (run-over spaces (λ b. eqb b 0x20) (counts-leading 0x20) s (spaces (drop at s)) at refl)
 
 -- where a run of spaces or letters that begins in the string ends
 pub spaces-within : (s : List ℕ) (at next : ℕ) → next ≡ at + spaces (drop at s) → at ≤ length s → next ≤ length s
-spaces-within s = ends-within spaces (λ b. eqb b 0x20) counts-spaces s
+spaces-within s = ends-within spaces (λ b. eqb b 0x20) (counts-leading 0x20) s
 
 pub letters-within : (s : List ℕ) (at end : ℕ) → end ≡ at + letters (drop at s) → at ≤ length s → end ≤ length s
 letters-within s = ends-within letters (λ b. isLetter (kindOf b)) counts-letters s
@@ -276,3 +284,28 @@ closes b e = sym (ap (λ (x : ℕ). actOf Free (kindOf x)) e)
 -- a word's spaces end within the string
 pub passed-within : (s : List ℕ) (at end next : ℕ) → Passed s at end next → next ≤ length s
 passed-within s at end next w = spaces-within s end next (w .rests) (letters-within s (at + 1) end (w .ends) (let h = w .inside in omega arith))
+
+-- ---- zeros behind the outer group
+
+module _ (room n : ℕ) (s : List ℕ) where
+  zeros-pass : (k at : ℕ) → zeros (drop at s) ≡ k → judge room at n after (drop at s) ≡ judge room (at + k) n after (drop (at + k) s)
+  zeros-pass zero at e = let same : at ≡ at + 0 = omega arith in ap (λ (i : ℕ). judge room i n after (drop i s)) same
+  zeros-pass (suc k) at e =
+      let f = first-of zeros (λ b. eqb b 0) (counts-leading 0) s at k e in
+      let same : at + 1 + k ≡ at + suc k = omega arith in
+      judge-zero room s at n (f .inside) (eqb-true (getD s at 0) 0 (f .is)) ∙ zeros-pass k (at + 1) (f .rest) ∙ ap (λ (i : ℕ). judge room i n after (drop i s)) same
+
+  module _ (at end : ℕ) (e : end ≡ at + zeros (drop at s)) where
+    passed-zeros : judge room at n after (drop at s) ≡ judge room end n after (drop end s)
+    passed-zeros = zeros-pass (zeros (drop at s)) at refl ∙ sym (ap (λ (i : ℕ). judge room i n after (drop i s)) e)
+
+    -- the first byte that is no zero is refused ..
+    pub other-behind : end < length s → judge room at n after (drop at s) ≡ refused wrongGrammar end
+    other-behind h =
+        let over = run-over zeros (λ b. eqb b 0) (counts-leading 0) s (zeros (drop at s)) at refl in
+        let none : zeros (drop end s) ≡ 0 = subst (λ (i : ℕ). zeros (drop i s) ≡ 0) (sym e) over in
+        passed-zeros ∙ judge-more room s end n h (eqb-false (getD s end 0) 0 (none-here zeros (λ b. eqb b 0) (counts-leading 0) s end h none))
+
+    -- .. and where there is none, the string is accepted
+    pub zeros-to-end : length s ≤ end → judge room at n after (drop at s) ≡ Accepted n
+    zeros-to-end h = passed-zeros ∙ judge-done room s end n h

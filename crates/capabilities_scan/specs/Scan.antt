@@ -5,10 +5,18 @@ use mathlib.Core.List.{List, [], _∷_}
 use lib.Dec.{eqb}
 use Rattle.capabilities_rules.specs.Limits.{deepest}
 
+-- how many bytes b a list begins with
+unfoldable pub leading : ℕ → List ℕ → ℕ
+leading b [] = 0
+leading b (c ∷ s) = cond (eqb c b) (leading b s + 1) 0
+
 -- how many spaces a list begins with
-unfoldable pub spaces : List ℕ → ℕ
-spaces [] = 0
-spaces (b ∷ s) = cond (eqb b 0x20) (spaces s + 1) 0
+abbrev pub spaces : List ℕ → ℕ
+spaces = leading 0x20
+
+-- how many zero bytes a list begins with
+abbrev pub zeros : List ℕ → ℕ
+zeros = leading 0
 
 -- how many groups are open around one that has `left` levels left inside it
 abbrev pub around : ℕ → ℕ

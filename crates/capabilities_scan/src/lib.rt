@@ -1,4 +1,4 @@
-// Scans a capabilities string: what a byte is, and where a run of letters or of spaces ends.
+// Scans a capabilities string: what a byte is, and where a run of letters, of spaces or of zero bytes ends.
 // No function asks anything of a position: past the end no byte stands, and a run there is empty.
 use message_rules::Position;
 ghost use mathlib.Core.Path.{_≡_};
@@ -7,7 +7,9 @@ ghost use lib.Dec.{eqb};
 ghost use lib.ListN.{drop, getD};
 ghost use Rattle.capabilities_rules.specs.Machine.{kindOf, isLetter};
 ghost use Rattle.capabilities_rules.specs.Nodes.{letters};
-ghost use Rattle.capabilities_scan.specs.Scan.{spaces};
+ghost use Rattle.capabilities_scan.specs.Scan.{leading, spaces, zeros};
+
+const ZERO: u8 = 0x00;
 
 const SPACE: u8 = 0x20;
 
@@ -50,19 +52,33 @@ pub fn word_end(text: &[u8], start: Position) -> Position
     Position(i)
 }
 
-// Returns the position past the spaces that stand from `start` on.
-pub fn skip_spaces(text: &[u8], start: Position) -> Position
-    ensures { λ r. ⌜ r .0 ≡ start .0 + spaces (drop (start .0) (now (text .entry))) ⌝ }
+// Returns the position past the bytes `b` that stand from `start` on.
+fn skip(text: &[u8], start: Position, b: u8) -> Position
+    ensures { λ r. ⌜ r .0 ≡ start .0 + leading b (drop (start .0) (now (text .entry))) ⌝ }
 {
     let mut i = start.0;
     while i < text.len() {
-        if text[i] == SPACE {
+        if text[i] == b {
             i += 1;
         } else {
             return Position(i);
         }
     }
     Position(i)
+}
+
+// Returns the position past the spaces that stand from `start` on.
+pub fn skip_spaces(text: &[u8], start: Position) -> Position
+    ensures { λ r. ⌜ r .0 ≡ start .0 + spaces (drop (start .0) (now (text .entry))) ⌝ }
+{
+    skip(text, start, SPACE)
+}
+
+// Returns the position past the zero bytes that stand from `start` on.
+pub fn skip_zeros(text: &[u8], start: Position) -> Position
+    ensures { λ r. ⌜ r .0 ≡ start .0 + zeros (drop (start .0) (now (text .entry))) ⌝ }
+{
+    skip(text, start, ZERO)
 }
 
 // Returns whether a "(" stands at a position.

@@ -1,4 +1,5 @@
-// Runs capabilities strings against worked-out answers: document 01's examples, and strings of real monitors.
+// Runs capabilities strings against worked-out answers: document 01's examples, zero bytes as document 02 has them, and
+// strings of real monitors.
 // Writes one line a group: how many of its strings were answered right.
 // Every expected number is the papers' own, as a numeral: none is named by a constant that is under test.
 use buffers::front_mut;
@@ -251,6 +252,71 @@ fn length() {
     report(b"4096 and 4097 bytes", t);
 }
 
+// Runs zero bytes behind the outer group: one, two and 40. They make no node.
+fn zeros_behind() {
+    let mut forty = [0u8; 43];
+    listed(&mut forty, 2, b'a', b'a');
+    let mut t = none();
+    t = nodes(t, b"()\0", 0, 0);
+    t = nodes(t, b"()\0\0", 0, 0);
+    t = nodes(t, b"(a)\0", 1, 196641);
+    t = nodes(t, b"(a(b))\0\0", 2, 15928092);
+    t = nodes(t, &forty, 1, 196641);
+    t = tried(t, b"()\0", 0, Wanted::Nodes(0, 0));
+    t = tried(t, b"(a)\0\0", 1, Wanted::Nodes(1, 196641));
+    t = refused(t, b"(a)\0", 0, 14, 1);
+    report(b"zeros behind", t);
+}
+
+// Runs what may not stand behind the outer group and zeros: anything but a zero, which is 13 at its position.
+fn behind_zeros() {
+    let mut forty = [0u8; 43];
+    listed(&mut forty, 1, b'a', b'a');
+    put(&mut forty, 42, b'a');
+    let mut t = none();
+    t = wrong(t, b"()\0a", 3);
+    t = wrong(t, b"()\0\0\0a", 5);
+    t = wrong(t, &forty, 42);
+    t = wrong(t, b"()\0 ", 3);
+    t = wrong(t, b"()\0(", 3);
+    t = wrong(t, b"()\0)", 3);
+    t = wrong(t, b"()\0\x01\0", 3);
+    t = wrong(t, b"() \0", 2);
+    report(b"behind zeros", t);
+}
+
+// Runs zeros anywhere else, each 13 at its position, unless an earlier position is refused.
+fn zeros_elsewhere() {
+    let mut t = none();
+    t = wrong(t, b"\0", 0);
+    t = wrong(t, b"\0()", 0);
+    t = wrong(t, b"(\0)", 1);
+    t = wrong(t, b"(a\0)", 2);
+    t = wrong(t, b"(a \0)", 3);
+    t = wrong(t, b"(a\0(b))", 2);
+    t = wrong(t, b"(a(\0b))", 3);
+    t = wrong(t, b"(a(b)\0)", 5);
+    t = wrong(t, b"(a\0", 2);
+    t = wrong(t, b"((\0", 1);
+    t = refused(t, b"(a b\0)", 1, 14, 3);
+    report(b"zeros elsewhere", t);
+}
+
+// Runs the length with zeros, which count: 4,096 bytes are read, and one more is 11 at position 0.
+fn zeros_counted() {
+    let mut word = [0u8; 4096];
+    listed(&mut word, 4055, b'a', b'a');
+    let mut longest = [0u8; 4096];
+    listed(&mut longest, 1, b'a', b'a');
+    let mut longer = [0u8; 4097];
+    listed(&mut longer, 1, b'a', b'a');
+    let mut t = none();
+    t = nodes(t, &word, 1, 233118);
+    t = nodes(t, &longest, 0, 0);
+    t = refused(t, &longer, ROOM, 11, 0);
+    report(b"4096 and 4097 bytes with zeros", t);
+}
+
 // Returns the tally with strings that have little room.
 fn little_room(mut t: Tally) -> Tally {
     t = tried(t, b"()", 0, Wanted::Nodes(0, 0));
@@ -274,7 +340,8 @@ fn room() {
 }
 
 // Runs strings as monitors give them.
-// They are source 004's, two whole ones, one with windows, one that ends with a zero byte, and one cut off.
+// They are source 004's, two whole ones, one with windows, one that ends with a zero byte, and two cut off, of which
+// one ends with a zero byte too.
 fn monitors() {
     let mut t = none();
     t = nodes(t, b"(vcp(10 12 16 18 1A 50 92))", 8, 1847922888);
@@ -296,8 +363,14 @@ fn monitors() {
         42,
         798556488,
     );
-    t = wrong(t, b"(prot(monitor)type(LCD)model(X)vcp(10 12))\0", 42);
+    t = nodes(
+        t,
+        b"(prot(monitor)type(LCD)model(X)vcp(10 12))\0",
+        9,
+        585145425,
+    );
     t = wrong(t, b"(prot(monitor)type(LCD)vcp(10 12 14(05 08 0B)", 45);
+    t = wrong(t, b"(prot(monitor)type(LCD)vcp(10 12 14(05 08 0B)\0", 45);
     report(b"monitors", t);
 }
 
@@ -308,5 +381,9 @@ fn main() {
     depth();
     length();
     room();
+    zeros_behind();
+    behind_zeros();
+    zeros_elsewhere();
+    zeros_counted();
     monitors();
 }

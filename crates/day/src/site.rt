@@ -47,12 +47,13 @@ pub(crate) fn also(mut s: Site, good: bool) -> Site {
 pub(crate) fn deliver(mut s: Site, message: Frame) -> Site {
     let before = s.display;
     let text = texts::capabilities();
+    let size = wide_word(before.capabilities.len);
     let bytes = message.bytes;
     let mut table = s.table;
     let mut out = [0u8; OUTPUT_ROOM];
     let stepped = ddcci_display_step(
         before,
-        &text,
+        front(&text, size),
         &mut table,
         front(&bytes, message.len),
         &mut out,

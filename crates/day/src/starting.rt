@@ -1,6 +1,7 @@
 // 05:00: the tent starts the displays and declares their codes.
 use crate::site;
 use crate::site::Site;
+use buffers::front;
 use day_host::declared;
 use day_host::texts;
 use day_report::messages;
@@ -8,9 +9,10 @@ use display_rules::limits::TABLE_ROOM;
 use message_rules::answer;
 
 // Returns a display that was started, with this fragment size, at the end of a line that goes by this seed.
-fn placed(size: u16, seed: u64) -> Site {
+fn placed(number: u64, size: u16, seed: u64) -> Site {
     let text = texts::capabilities();
-    let started = display_start::start(declared::timing(), &text, size);
+    let string = front(&text, texts::capabilities_size(number));
+    let started = display_start::start(declared::timing(), string, size);
     let display = started.display;
     Site {
         display: display,
@@ -42,7 +44,7 @@ fn declare(mut s: Site, k: usize) -> Site {
 
 // Returns the site of a display that was started, with its codes declared.
 pub(crate) fn start(number: u64, size: u16, seed: u64) -> Site {
-    let mut s = placed(size, seed);
+    let mut s = placed(number, size, seed);
     let started = s.answer;
     let mut k: usize = 0;
     while k < declared::CODES {

@@ -1,6 +1,7 @@
 // The tasks of the day, each with one display.
 use crate::site;
 use crate::site::Site;
+use buffers::front;
 use day_host::actions::Action;
 use day_host::texts;
 use day_host::trial;
@@ -79,7 +80,8 @@ pub(crate) fn read_list(s: Site, number: u64, list: &[u8]) -> Site {
 // Returns the site after the capabilities string was read.
 pub(crate) fn read_capabilities(s: Site, number: u64) -> Site {
     let text = texts::capabilities();
-    read(TextKind::Capabilities, s, number, &text)
+    let string = front(&text, texts::capabilities_size(number));
+    read(TextKind::Capabilities, s, number, string)
 }
 
 // ---- 18:30, dusk

@@ -2,7 +2,10 @@
 // The list is 85 records of a token and a household.
 
 // The bytes of the capabilities string.
-pub const TEXT_SIZE: usize = 53;
+const STRING_SIZE: usize = 53;
+
+// Its bytes with the two zeros behind it.
+pub const TEXT_SIZE: usize = 55;
 
 // The bytes of a record: its length (10), its kind (32), token and household, the low byte first.
 const RECORD: usize = 12;
@@ -22,9 +25,15 @@ const FIRST_HOUSEHOLD: usize = 2000;
 // The step from one record's household to the next: they come in a mixed order, each once.
 const HOUSEHOLD_STEP: usize = 31;
 
-// Returns the capabilities string.
+// Returns the capabilities string, with two zeros behind it.
 pub fn capabilities() -> [u8; TEXT_SIZE] {
-    *b"(prot(monitor)vcp(01 10 12 60(0F 11)F4)mccs_ver(2.2))"
+    *b"(prot(monitor)vcp(01 10 12 60(0F 11)F4)mccs_ver(2.2))\0\0"
+}
+
+// Returns how many of these bytes a display has.
+// The first one has the string alone, the second one ends it with zeros, as many monitors do.
+pub fn capabilities_size(number: u64) -> usize {
+    if number == 1 { STRING_SIZE } else { TEXT_SIZE }
 }
 
 // Returns the byte of a record at this index.

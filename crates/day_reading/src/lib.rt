@@ -1,6 +1,7 @@
 // 06:00 and 12:00: a host reads a text of a display over the line, fragment by fragment.
 // It asks again where the line spoils an exchange.
 mod calls;
+mod strings;
 
 use buffers::front;
 use day_line::Fate;
@@ -8,7 +9,6 @@ use day_line::Frame;
 use day_line::Line;
 use day_line::tally;
 use day_line::tally::Tally;
-use day_report::OUT;
 use day_report::exchanges;
 use message_rules::TextKind;
 use message_rules::answer;
@@ -157,17 +157,10 @@ fn closed_well(t: Transfer, tally: Tally, same: bool) -> bool {
     false
 }
 
-// Returns whether the text that was read is accepted.
-// Of the first display's capabilities string the tree is written, and the reader's verdict returned.
-// The second display has the same string: that is true. A list is checked as the gates do.
+// Returns whether the text that was read is accepted: a string by the grammar, a list as the gates check it.
 fn accepted(kind: TextKind, number: u64, text: &[u8]) -> bool {
     match kind {
-        TextKind::Capabilities => {
-            if number == 1 {
-                return show_tree::write(OUT, b"      ", text);
-            }
-            true
-        }
+        TextKind::Capabilities => strings::accepted(number, text),
         TextKind::Table => calls::checked(number, text),
     }
 }

@@ -1,4 +1,4 @@
-// What came of checking a call list, and of loading a settings profile.
+// What came of checking a call list, of reading a capabilities string, and of loading a settings profile.
 use crate::OUT;
 use crate::line;
 use message_rules::answer;
@@ -32,4 +32,12 @@ pub fn called(household: u32, number: usize) {
 // Writes that no entry calls it.
 pub fn never_called(household: u32) {
     line(b"household # by NO ENTRY\n", &[household as u64]);
+}
+
+// Writes that a string is accepted though it ends with zeros, and how many words it has.
+pub fn words(words: usize) {
+    line(
+        b"    accepted, with # words: the two zero bytes at its end make none\n",
+        &[words as u64],
+    );
 }

@@ -7,6 +7,7 @@ use message_rules::answer;
 use show::text;
 
 // Writes which byte is refused. A line end behind the string is the one that `echo` leaves.
+// A zero byte is refused where a bracket is still open, or none was.
 fn refused_byte(to: i32, place: Position, b: u8) {
     show::counted(to, b": byte ", place.0 as u64, b" is ");
     show::hex(to, b);
@@ -14,6 +15,11 @@ fn refused_byte(to: i32, place: Position, b: u8) {
         text(
             to,
             b", a line end: remove it, or write the string with printf",
+        );
+    } else if b == 0 {
+        text(
+            to,
+            b", a zero byte, which may stand only behind the last bracket",
         );
     }
 }

@@ -35,6 +35,9 @@ fn main() {
     string(b"()");
     string(b"(a(b)(c))");
     string(b"(vcp(10))\n");
+    string(b"(vcp(10))\0\0");
+    string(b"(vcp(10)\0");
+    string(b"(vcp(10))\0a");
     string(b"(a");
     string(b"");
     string(b"(a(a(a(a(a(a(a(a(");

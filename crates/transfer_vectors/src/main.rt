@@ -1,10 +1,12 @@
 // Runs transfers over a simulated line, and holds them to what demand 3 says of them.
 // They have budgets of L and L + 1, fragments of 1, 31, 32 and mixed lengths, and lines with and without noise.
-// They go by value and in place. The last line breaks what demand 3 supposes.
+// They go by value and in place. Strings that end with zero bytes are handed over with them, and then read.
+// The last line breaks what demand 3 supposes.
 mod display;
 mod flips;
 mod line;
 mod run;
+mod zeros;
 
 use message_rules::TextKind;
 
@@ -14,8 +16,8 @@ fn counted(what: &[u8], n: u16) {
     io::print_decimal(1, n as u64);
 }
 
-// Writes one line: what was run, how the transfer ended, and whether the buffer is as demand 3 says.
-fn report(name: &[u8], o: run::Ended) {
+// Writes what was run, how the transfer ended, and whether the buffer is as demand 3 says.
+fn outcome(name: &[u8], o: run::Ended) {
     io::write_all(1, name);
     io::write_all(1, b": ");
     let state = o.state;
@@ -23,10 +25,16 @@ fn report(name: &[u8], o: run::Ended) {
     counted(b", offset ", o.reached);
     counted(b", counted ", o.count);
     if o.right {
-        io::write_all(1, b", buffer right\n");
+        io::write_all(1, b", buffer right");
     } else {
-        io::write_all(1, b", BUFFER WRONG\n");
+        io::write_all(1, b", BUFFER WRONG");
     }
+}
+
+// Writes one line of a transfer.
+fn report(name: &[u8], o: run::Ended) {
+    outcome(name, o);
+    io::write_all(1, b"\n");
 }
 
 // Runs a perfect line: fragments of one byte need exactly L + 1 exchanges.
@@ -90,5 +98,6 @@ fn main() {
     budgets();
     sizes();
     noise();
+    zeros::behind();
     flips::two_flips();
 }

@@ -4,6 +4,9 @@ use crate::display::Cursor;
 use crate::line;
 use crate::line::Frame;
 use crate::line::ROOM;
+use capabilities_checker::check;
+use capabilities_rules::Reading;
+use capabilities_rules::limits::MOST_NODES;
 use message_rules::TextKind;
 use transfer_rules::Received;
 use transfer_rules::State;
@@ -28,6 +31,8 @@ pub(crate) struct Ended {
     pub(crate) count: u16,
     // Whether the buffer is as demand 3 says.
     pub(crate) right: bool,
+    // What reading the bytes that came answers, as a capabilities string.
+    pub(crate) reading: Reading,
 }
 
 // A transfer and what stands around it.
@@ -186,12 +191,15 @@ fn judged(w: World, text: &[u8]) -> Ended {
     let t = w.transfer;
     let state = t.state;
     let buffer = w.buffer;
-    let right = is_right(text, &buffer, t.reached.0 as usize);
+    let reached = t.reached.0 as usize;
+    let right = is_right(text, &buffer, reached);
+    let reading = check(buffers::front(&buffer, reached), MOST_NODES);
     Ended {
         state: state,
         reached: t.reached.0,
         count: t.count,
         right: right,
+        reading: reading,
     }
 }
 
@@ -199,6 +207,18 @@ fn judged(w: World, text: &[u8]) -> Ended {
 fn list(s: Setup, text: &[u8], budget: usize) -> Ended {
     let kind = s.kind;
     judged(exchanges(begin(kind, budget), s, text), text)
+}
+
+// Returns how a transfer ends of this capabilities string, with a budget that is enough.
+// The string comes in fragments of a fixed length (0: mixed), over a line with this noise.
+pub(crate) fn string(text: &[u8], fixed: usize, noise: u64) -> Ended {
+    let s = Setup {
+        kind: TextKind::Capabilities,
+        fixed: fixed,
+        noise: noise,
+        in_place: false,
+    };
+    list(s, text, EXCHANGES)
 }
 
 // Returns how a transfer ends of a text of so many bytes.

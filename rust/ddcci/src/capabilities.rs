@@ -67,6 +67,17 @@ pub struct Node<'a> {
 
 impl<'a> Capabilities<'a> {
     /// Reads a capabilities string. A refusal leaves the buffers as they were.
+    ///
+    /// Zero bytes may follow the outer group. They make no node, and they count to the 4,096 bytes that a string may
+    /// have.
+    ///
+    /// ```
+    /// # use ddcci::{Capabilities, Nodes};
+    /// let mut nodes = Nodes::default();
+    /// let capabilities = Capabilities::read(b"(vcp(10))\0\0", &mut nodes)?;
+    /// assert_eq!(capabilities.len(), 2);
+    /// # Ok::<(), ddcci::RefusedAt>(())
+    /// ```
     pub fn read(text: &'a [u8], nodes: &'a mut Nodes) -> Result<Capabilities<'a>, RefusedAt> {
         let Nodes { starts, lengths, parents, groups } = &mut *nodes;
         let count = read_capabilities_into(text, starts, lengths, parents, groups)?;
@@ -135,6 +146,8 @@ impl fmt::Debug for Capabilities<'_> {
 /// of the buffers, at most [`MOST_NODES`]. A node's entries are the start and the length of its word, its parent
 /// (65,535 in the outer group), and 1 where a group follows it, else 0. Entries past the nodes stay; a refusal leaves
 /// all as it was.
+///
+/// Zero bytes may follow the outer group. They make no node, and they count to the 4,096 bytes that a string may have.
 pub fn read_capabilities_into(
     text: &[u8],
     starts: &mut [u16],

@@ -1,8 +1,8 @@
 //! Safe bindings of Paneknoll, a verified implementation of both ends of VESA DDC/CI 1.1.
 //!
 //! Every call below goes to a function that is proved, for all inputs, to be safe, to end and to answer as the papers
-//! say: document 01, and document 02 for call lists and for many settings in one call. None of them panics on any
-//! bytes, and none allocates.
+//! say: document 01, and document 02 for call lists, for many settings in one call and for zero bytes behind a
+//! capabilities string. None of them panics on any bytes, and none allocates.
 //!
 //! The crate is `no_std` without its feature `std`, which is on by default and adds only the change of a refusal into
 //! a [`std::io::Error`]. The archives that it links are built for x86-64 Linux.

@@ -152,6 +152,9 @@ impl<'a> Transfer<'a> {
 
     /// Ends the transfer and returns the whole text, which there is only where the transfer is done.
     ///
+    /// It is the text as the display has it: a capabilities string that ends with zero bytes comes with them, and
+    /// [`Capabilities::read`](crate::Capabilities::read) takes them.
+    ///
     /// ```
     /// # use ddcci::{State, TextKind, Transfer};
     /// # let mut buffer = [0; 64];

@@ -60,6 +60,9 @@ fn a_tree_says_nothing_on_standard_error() {
     let tree = "prot\n  monitor\nvcp\n  10\n  14\n    05\n    08\n";
     assert_eq!(wrote_for("capabilities_tree", b"(prot(monitor)vcp(10 14(05 08)))"), (tree.into(), "".into()));
     assert_eq!(wrote_for("capabilities_tree", b"()"), ("".into(), "".into()));
+    assert_eq!(wrote_for("capabilities_tree", b"(prot(monitor)vcp(10 14(05 08)))\0"), (tree.into(), "".into()));
+    let longest = [&b"(a)"[..], &[0; 4093]].concat();
+    assert_eq!(wrote_for("capabilities_tree", &longest), ("a\n".into(), "".into()));
 }
 
 #[test]
@@ -69,8 +72,21 @@ fn a_refusal_is_one_line_and_the_reason_another() {
     for (input, line, why) in [
         (&b"(a(b)(c))"[..], "refused 13 at 5\n", "13, not in the grammar: byte 5 is 28"),
         (b"(vcp(10))\n", "refused 13 at 9\n", "13, not in the grammar: byte 9 is 0A, a line end: remove it"),
+        (
+            b"(vcp(10)\0",
+            "refused 13 at 8\n",
+            "13, not in the grammar: byte 8 is 00, a zero byte, which may stand only behind",
+        ),
+        (
+            b"\0()",
+            "refused 13 at 0\n",
+            "13, not in the grammar: byte 0 is 00, a zero byte, which may stand only behind",
+        ),
+        (b"(vcp(10))\0\n", "refused 13 at 10\n", "13, not in the grammar: byte 10 is 0A, a line end: remove it"),
+        (b"()\0a", "refused 13 at 3\n", "13, not in the grammar: byte 3 is 61\n"),
         (b"", "refused 13 at 0\n", "13, not in the grammar: it is empty"),
         (b"(a", "refused 13 at 2\n", "13, not in the grammar: it ends at byte 2 with no closing bracket"),
+        (&[b"()".as_slice(), &[0; 4095]].concat(), "refused 11 at 0\n", "11, no room for it: a capabilities string"),
         (&[b' '; 4097], "refused 11 at 0\n", "11, no room for it: a capabilities string has at most 4096 bytes"),
         (&many, "refused 14 at 1025\n", "14, "),
         (&deep, "refused 15 at 16\n", "15, "),

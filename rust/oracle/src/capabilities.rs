@@ -4,6 +4,9 @@
 //! is words and spaces; each word may be followed, after any spaces, by one
 //! group. A word is a longest run of bytes 21 to 7E other than the two
 //! brackets; a space is 20."
+//!
+//! Document 02's K2 mends the first sentence: "after the outer group any number
+//! of 00 bytes may follow, and nothing else. They make no node."
 
 use crate::{answer, TEXT_LIMIT};
 
@@ -74,10 +77,21 @@ impl Nodes for Lent<'_> {
     }
 }
 
+/// "After the outer group any number of 00 bytes may follow, and nothing else"; "a byte other than 00 after the first of
+/// them is 13 at its place". Not in the pass itself, so that a string without zeros loses no time by it.
+#[inline(never)]
+fn only_zeros(text: &[u8], at: usize) -> Result<(), (u8, usize)> {
+    match text[at..].iter().position(|&byte| byte != 0) {
+        None => Ok(()),
+        Some(zeros) => Err((answer::GRAMMAR, at + zeros)),
+    }
+}
+
 /// One pass over the text. A byte is judged before anything after it, so the
 /// first place wins; at one place the grammar is judged first.
 #[inline(always)]
 fn scan<const DEPTH: usize>(text: &[u8], room: usize, nodes: &mut impl Nodes) -> Result<usize, (u8, usize)> {
+    // "The 4,096 limit counts them", the zeros.
     if text.len() > TEXT_LIMIT {
         return Err((answer::TOO_LONG, 0));
     }
@@ -126,10 +140,10 @@ fn scan<const DEPTH: usize>(text: &[u8], room: usize, nodes: &mut impl Nodes) ->
             depth -= 1;
             after_word = false;
             if depth == 0 {
-                // "One group and nothing else."
-                return if at == text.len() { Ok(count) } else { Err((answer::GRAMMAR, at)) };
+                return if at == text.len() { Ok(count) } else { only_zeros(text, at).map(|()| count) };
             }
         } else {
+            // "A 00 anywhere else is 13 at its place", as is every byte that stands in no rule.
             return Err((answer::GRAMMAR, at));
         }
     }

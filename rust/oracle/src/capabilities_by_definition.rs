@@ -1,4 +1,5 @@
-//! Slow readers of capabilities strings, as near to document 01's words as can be.
+//! Slow readers of capabilities strings, as near to the words of document 01 and
+//! of document 02's K2 as can be.
 //!
 //! They allocate and repeat work freely: they are there to check the fast ones.
 
@@ -64,7 +65,11 @@ fn list(text: &[u8], mut at: usize, parent: Option<usize>, nodes: &mut Vec<Node>
 /// unlimited"; else the place where the descent stopped.
 pub fn parse(text: &[u8]) -> Result<Vec<Node>, usize> {
     let mut nodes = Vec::new();
-    let end = group(text, 0, None, &mut nodes)?;
+    let mut end = group(text, 0, None, &mut nodes)?;
+    // "After the outer group any number of 00 bytes may follow, and nothing else. They make no node."
+    while text.get(end) == Some(&0x00) {
+        end += 1;
+    }
     if end == text.len() {
         Ok(nodes)
     } else {
@@ -72,12 +77,15 @@ pub fn parse(text: &[u8]) -> Result<Vec<Node>, usize> {
     }
 }
 
-/// Whether a continuation, the empty one included, is accepted by the grammar.
+/// Whether a prefix of at least one byte has a continuation, the empty one
+/// included, that the grammar accepts.
 ///
-/// Searched among all continuations by the bytes `( ) a` and space, up to a
+/// Searched among all continuations by the bytes `( ) a`, space and 00, up to a
 /// length that closes as many groups as the prefix can have open (each needs a
-/// bracket, and all but the first a word before it). Other word bytes count as
-/// `a` in every rule, and the remaining bytes stand in no rule.
+/// bracket, and all but the first a word before it). 00 bytes need no longer
+/// one: what is accepted with some of them at its end is accepted with fewer.
+/// Other word bytes count as `a` in every rule, and the remaining bytes stand in
+/// no rule.
 pub fn is_viable(prefix: &[u8]) -> bool {
     let mut text = prefix.to_vec();
     search(&mut text, prefix.len() / 2 + 1)
@@ -90,7 +98,7 @@ fn search(text: &mut Vec<u8>, more: usize) -> bool {
     if more == 0 {
         return false;
     }
-    for byte in [b')', b'(', b'a', b' '] {
+    for byte in [b')', b'(', b'a', b' ', 0x00] {
         text.push(byte);
         let found = search(text, more - 1);
         text.pop();
@@ -132,6 +140,7 @@ fn room_place(text: &[u8], room: usize) -> Option<usize> {
 /// The whole judgement, given the place of 13: "the first place wins", and at
 /// one place 13 goes before 15 and 14.
 pub fn judge_with(text: &[u8], grammar: Option<usize>, room: usize, depth: usize) -> Result<Vec<Node>, (u8, usize)> {
+    // "The 4,096 limit counts them", the zeros.
     if text.len() > TEXT_LIMIT {
         return Err((answer::TOO_LONG, 0));
     }

@@ -10,7 +10,11 @@ use oracle::{capabilities, profile, Text, TABLE_CODE, TABLE_LIMIT};
 use std::fmt::Write;
 use std::path::Path;
 
-const CAPABILITIES: &[u8] = b"(prot(monitor)vcp(01 10 12 60(0F 11)F4)mccs_ver(2.2))";
+/// The capabilities strings of the two displays: the second one ends with two zero bytes.
+const CAPABILITIES: [&[u8]; 2] = [
+    b"(prot(monitor)vcp(01 10 12 60(0F 11)F4)mccs_ver(2.2))",
+    b"(prot(monitor)vcp(01 10 12 60(0F 11)F4)mccs_ver(2.2))\0\0",
+];
 
 /// The meaning of document 01's answer numbers, as the program words it.
 fn meaning(answer: u8) -> String {
@@ -88,6 +92,7 @@ impl Line {
 
 /// A display at the end of its line.
 struct Site {
+    capabilities: &'static [u8],
     display: Display,
     table: [u8; TABLE_LIMIT],
     line: Line,
@@ -96,7 +101,7 @@ struct Site {
 impl Site {
     fn send(&mut self, message: &[u8]) -> (u8, Vec<u8>) {
         let mut out = [0; 38];
-        let (answer, n) = self.display.step(CAPABILITIES, &mut self.table, message, &mut out);
+        let (answer, n) = self.display.step(self.capabilities, &mut self.table, message, &mut out);
         (answer, out[..n].to_vec())
     }
 
@@ -170,8 +175,9 @@ impl Site {
 }
 
 fn start(said: &mut String, number: usize, size: usize, seed: u64) -> Site {
+    let capabilities = CAPABILITIES[number - 1];
     let (answer, mut display) =
-        Display::start(Timing { status: 2, horizontal: 13340, vertical: 6000 }, CAPABILITIES, size);
+        Display::start(Timing { status: 2, horizontal: 13340, vertical: 6000 }, capabilities, size);
     writeln!(said, "  display {number}, which sends fragments of {size} bytes: {}", meaning(answer)).unwrap();
     let mut declare = |code, kind, continuous, maximum, present| {
         display.declare(Declaration { code, readable: kind == 0, writable: true, kind, continuous, maximum, present })
@@ -184,7 +190,7 @@ fn start(said: &mut String, number: usize, size: usize, seed: u64) -> Site {
     ];
     assert_eq!(answers, [0; 4]);
     writeln!(said, "    brightness (10), contrast (12), input (60), degauss (01): {}", meaning(answers[3])).unwrap();
-    Site { display, table: [0; TABLE_LIMIT], line: Line { seed, last: vec![] } }
+    Site { capabilities, display, table: [0; TABLE_LIMIT], line: Line { seed, last: vec![] } }
 }
 
 fn write_list(said: &mut String, site: &mut Site, list: &[u8]) {
@@ -226,9 +232,9 @@ fn gate(said: &mut String, first: bool, list: &[u8]) {
     }
 }
 
-fn tree(said: &mut String) {
+fn tree(said: &mut String, text: &[u8]) {
     let (mut starts, mut lengths, mut parents, mut groups) = ([0; 512], [0; 512], [0; 512], [0; 512]);
-    let count = capabilities::read(CAPABILITIES, &mut starts, &mut lengths, &mut parents, &mut groups).unwrap();
+    let count = capabilities::read(text, &mut starts, &mut lengths, &mut parents, &mut groups).unwrap();
     for node in 0..count {
         let (mut level, mut at) = (0, parents[node]);
         while at != 65535 {
@@ -236,7 +242,7 @@ fn tree(said: &mut String) {
             at = parents[usize::from(at)];
         }
         let start = usize::from(starts[node]);
-        let word = std::str::from_utf8(&CAPABILITIES[start..start + usize::from(lengths[node])]).unwrap();
+        let word = std::str::from_utf8(&text[start..start + usize::from(lengths[node])]).unwrap();
         writeln!(said, "      {}{word}", "  ".repeat(level)).unwrap();
     }
 }
@@ -302,9 +308,13 @@ fn day() -> String {
                     gate(&mut said, i == 0, &list);
                 }
                 3 => {
-                    site.read(&mut said, Text::Capabilities, 0, CAPABILITIES);
+                    site.read(&mut said, Text::Capabilities, 0, CAPABILITIES[i]);
                     if i == 0 {
-                        tree(&mut said);
+                        tree(&mut said, CAPABILITIES[i]);
+                    } else {
+                        let words = capabilities::judge(CAPABILITIES[i], 512).expect("zeros behind are accepted");
+                        writeln!(said, "    accepted, with {words} words: the two zero bytes at its end make none")
+                            .unwrap();
                     }
                 }
                 _ => dusk(&mut said, i == 0, site),

@@ -1,4 +1,5 @@
--- `capabilities_checker::check` meets its contract: the length, the first byte, and what the checker of the outer group finds, in the order of the definition.
+-- `capabilities_checker::check` meets its contract: the length, the first byte, what the checker of the outer group finds, and
+-- what stands behind it, in the order of the definition.
 use Prim.Native.Nat.{ℕ, _<_, _≤_}
 use Rattle.message_rules.specs.Limits.{longestText}
 use mathlib.Core.Path.{_≡_, sym, ap, _∙_}
@@ -10,7 +11,8 @@ use Rattle.capabilities_rules.specs.Outcome.{judge, outcome}
 use Rattle.capabilities_checker.specs.Checker.{resumed}
 use Rattle.capabilities_checker.specs.declared.Group.{Group}
 use Rattle.capabilities_rules.specs.Kinds.{Free}
-use Rattle.capabilities_rules.proofs.Whole.{outcome-long, outcome-short, judge-none, judge-shut, judge-open, judge-more, judge-done}
+use Rattle.capabilities_rules.proofs.Whole.{outcome-long, outcome-short, judge-none, judge-shut, judge-open}
+use Rattle.capabilities_scan.proofs.Runs.{other-behind, zeros-to-end}
 use Rattle.capabilities_checker.proofs.check.Statement.{statement}
 use Rattle.capabilities_checker.proofs.check.Tie as tie
 
@@ -18,6 +20,12 @@ use Rattle.capabilities_checker.proofs.check.Tie as tie
 within : (room : ℕ) (s : List ℕ) → length s ≤ longestText → 0 < length s → getD s 0 0 ≡ 0x28 → {r r′ : Group} → judge room 1 0 (inside 0 Free) (drop 1 s) ≡ resumed room 0 s r → r ≡ r′
     → outcome room s ≡ resumed room 0 s r′
 within room s small some first answer g = outcome-short room s small ∙ judge-open room s some first ∙ answer ∙ ap (resumed room 0 s) g
+
+found : (c : tie.After-check-group) {r : Group} → c .check-group .result ≡ r
+    → let x = c .before .before .before .before .before .before .args in outcome (x .room) (x .text .now) ≡ resumed (x .room) 0 (x .text .now) r
+found c e =
+    let x = c .before .before .before .before .before .before .args in
+    within (x .room) (x .text .now) (c .before .before .before .before .if1 .left) (search needs) (c .before .if3 .left) (c .check-group .ensures .answer) e
 
 returns : tie.Need-returns
 returns c = sym (outcome-long (c .before .before .args .room) (c .before .before .args .text .now) (c .if1 .taken))
@@ -44,35 +52,26 @@ check-group-requires c κs = search needs
 enum-known-outer : tie.Need-enum-known-outer
 enum-known-outer c = search needs
 
+skip-zeros-requires : tie.Need-skip-zeros-requires
+skip-zeros-requires c κs = search needs
+
 enum-known-outer-2 : tie.Need-enum-known-outer-2
 enum-known-outer-2 c = search needs
 
 returns-4 : tie.Need-returns-4
 returns-4 c =
-    let k = c .before .before .before .before .before in
-    let x = k .before .before .before .before .before .before .args in
-    let s : List ℕ = x .text .now in
-    let g = c .before .before .before .outer .given in
-    let e = within (x .room) s (k .before .before .before .before .if1 .left) (search needs) (k .before .if3 .left) (k .check-group .ensures .answer) (g .1) in
-    sym (e ∙ judge-more (x .room) s (g .0 .0 .0) (g .0 .1 .0) (c .if4 .taken))
+    let x = c .before .before .before .before .before .before .before .before .before .before .before .before .args in
+    let g = c .before .before .before .before .outer .given in
+    sym (found (c .before .before .before .before .before .before) (g .1) ∙ other-behind (x .room) (g .0 .1 .0) (x .text .now) (g .0 .0 .0) (c .before .before .skip-zeros .result .0) (c .before .before .skip-zeros .ensures) (c .if4 .taken))
 
 returns-5 : tie.Need-returns-5
 returns-5 c =
-    let k = c .before .before .before .before .before in
-    let x = k .before .before .before .before .before .before .args in
-    let s : List ℕ = x .text .now in
-    let g = c .before .before .before .outer .given in
-    let e = within (x .room) s (k .before .before .before .before .if1 .left) (search needs) (k .before .if3 .left) (k .check-group .ensures .answer) (g .1) in
-    sym (e ∙ judge-done (x .room) s (g .0 .0 .0) (g .0 .1 .0) (c .if4 .left))
+    let x = c .before .before .before .before .before .before .before .before .before .before .before .before .args in
+    let g = c .before .before .before .before .outer .given in
+    sym (found (c .before .before .before .before .before .before) (g .1) ∙ zeros-to-end (x .room) (g .0 .1 .0) (x .text .now) (g .0 .0 .0) (c .before .before .skip-zeros .result .0) (c .before .before .skip-zeros .ensures) (c .if4 .left))
 
 returns-6 : tie.Need-returns-6
-returns-6 c =
-    let k = c .before .before .before in
-    let x = k .before .before .before .before .before .before .args in
-    let s : List ℕ = x .text .now in
-    let g = c .before .outer2 .given in
-    let e = within (x .room) s (k .before .before .before .before .if1 .left) (search needs) (k .before .if3 .left) (k .check-group .ensures .answer) (g .1) in
-    sym e
+returns-6 c = sym (found (c .before .before .before) (c .before .outer2 .given .1))
 
 pub check-spec : {M : Type 1} → statement M
 check-spec =
@@ -85,6 +84,7 @@ check-spec =
     sub-check-group
     check-group-requires
     enum-known-outer
+    skip-zeros-requires
     enum-known-outer-2
     returns-4
     returns-5

@@ -13,7 +13,7 @@ use Rattle.capabilities_scan.proofs.is_letter.Tie as tie
 
 up-to-last : (b : ℕ) → 0x21 ≤ b → (b ≡ 0x28 → ⊥) → (b ≡ 0x29 → ⊥) → isLetter (kindOf b) ≡ leb b 0x7e
 unfolding kindOf
-up-to-last b low no-open no-close = rw (ne-eqb b 0x28 no-open, ne-eqb b 0x29 no-close, ne-eqb b 0x20 (λ e. omega arith), le-leb 0x21 b low) (go (leb b 0x7e))
+up-to-last b low no-open no-close = rw (ne-eqb b 0x28 no-open, ne-eqb b 0x29 no-close, ne-eqb b 0x20 (λ e. omega arith), ne-eqb b 0 (λ e. omega arith), le-leb 0x21 b low) (go (leb b 0x7e))
   where
     go : (t : Bool) → isLetter (cond t Letter Other) ≡ t
     go true = refl

@@ -1,5 +1,5 @@
-//! Reading capabilities strings of 300, 600 and 4,096 bytes, beside two one-pass readers into the same lent buffers:
-//! the oracle's, which is tuned, and a plain one.
+//! Reading capabilities strings of 300, 600 and 4,096 bytes, and one of 300 with 40 zero bytes behind it, beside two
+//! one-pass readers into the same lent buffers: the oracle's, which is tuned, and a plain one.
 use crate::measure::{both, line};
 use std::hint::black_box;
 
@@ -42,11 +42,10 @@ enum State {
     Free,
     Word,
     Gap,
-    After,
 }
 
-/// A reader as one writes it: one loop over the bytes, a state, a stack of the open groups, and the nodes in the lent
-/// buffers. Unlike ours it leaves nodes behind where it refuses.
+/// A reader as one writes it: one loop over the bytes to the last bracket, a state, a stack of the open groups, and the
+/// nodes in the lent buffers. Unlike ours it leaves nodes behind where it refuses.
 #[inline(never)]
 fn plain(text: &[u8], lent: &mut Lent) -> Result<usize, (u8, usize)> {
     let mut count = 0;
@@ -71,10 +70,10 @@ fn plain(text: &[u8], lent: &mut Lent) -> Result<usize, (u8, usize)> {
             (State::Free | State::Word | State::Gap, b')') => {
                 depth -= 1;
                 if depth == 0 {
-                    State::After
-                } else {
-                    State::Free
+                    let behind = text[at + 1..].iter().position(|&byte| byte != 0);
+                    return behind.map_or(Ok(count), |zeros| Err((13, at + 1 + zeros)));
                 }
+                State::Free
             }
             (State::Free, b' ') => State::Free,
             (State::Word | State::Gap, b' ') => State::Gap,
@@ -96,15 +95,17 @@ fn plain(text: &[u8], lent: &mut Lent) -> Result<usize, (u8, usize)> {
             _ => return Err((13, at)),
         };
     }
-    match state {
-        State::After => Ok(count),
-        _ => Err((13, text.len())),
-    }
+    Err((13, text.len()))
 }
 
 pub fn run() {
-    for length in [300, 600, 4096] {
-        let text = text(length);
+    for (length, zeros) in [(300, 0), (300, 40), (600, 0), (4096, 0)] {
+        let mut text = text(length);
+        let what = match zeros {
+            0 => format!("capabilities string of {} bytes", text.len()),
+            _ => format!("  {} bytes and {zeros} zero bytes", text.len()),
+        };
+        text.resize(text.len() + zeros, 0);
         let (mut a, mut b) = (Lent::new(), Lent::new());
         let times = both(
             2_000_000 / length,
@@ -127,7 +128,7 @@ pub fn run() {
                 )
             },
         );
-        line(&format!("capabilities string of {} bytes", text.len()), times);
+        line(&what, times);
         let nodes =
             ddcci::read_capabilities_into(&text, &mut a.starts, &mut a.lengths, &mut a.parents, &mut a.groups).unwrap();
         assert_eq!(plain(&text, &mut b).unwrap(), nodes);

@@ -1,4 +1,4 @@
-// Reads a capabilities string: accepted or refused as document 01's grammar says.
+// Reads a capabilities string: accepted or refused as the papers' grammar says.
 // Its tree is given as nodes in four lent buffers.
 // A checker judges the whole string before the filler stores the first node, so that a refusal changes no buffer.
 mod filler;

@@ -49,6 +49,7 @@ zeros-end room (one-zero sz) at n (inside d Word) = refl
 zeros-end room (one-zero sz) at n (inside d Gap) = refl
 zeros-end room (one-zero sz) at n after = zeros-end room sz (at + 1) n after
 
+-- so wherever the machine stands, zeros behind the bytes to come change no answer
 zeros-judged : (room : ℕ) {z : List ℕ} → Zeros z → (s : List ℕ) (at n : ℕ) (p : Phase) → judge room at n p (s ++ z) ≡ judge room at n p s
 unfolding judge
 zeros-judged room sz [] at n p = zeros-end room sz at n p

@@ -1,6 +1,6 @@
 -- The checker of a group, a word at a time: what holds at each turn of its loop, and what each branch makes of it.
 use Prim.Native.Nat.{ℕ, suc, _+_, _≤_, _<_}
-use mathlib.Core.Path.{_≡_, refl, sym, ap, _∙_, subst}
+use mathlib.Core.Path.{_≡_, refl, ap, _∙_, subst}
 use mathlib.Core.Bool.{true, false}
 use mathlib.Core.List.{List}
 use native.Mathlib.Omega.{arith}
@@ -15,7 +15,7 @@ use Rattle.capabilities_rules.specs.Outcome.{judge}
 use Rattle.capabilities_rules.specs.Kinds.{ByteKind}
 use Rattle.capabilities_rules.specs.Kinds.{Open, Close, Space, Letter, Zero, Other}
 use Rattle.capabilities_rules.specs.Kinds.{Free, Word}
-use Rattle.capabilities_rules.specs.Kinds.{Leave, Refuse}
+use Rattle.capabilities_rules.specs.Kinds.{Refuse}
 use Rattle.capabilities_rules.proofs.Laws.{judge-end, stop-deep, go-in, go-out, stop-full, go-word, stop-bad}
 use Rattle.capabilities_rules.proofs.Bytes.{KindIs, kind-is}
 use Rattle.capabilities_scan.specs.Scan.{spaces}

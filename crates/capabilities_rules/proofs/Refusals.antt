@@ -3,7 +3,7 @@ use Prim.Native.Nat.{ℕ, zero, suc, _+_, _≤_, _<_}
 use mathlib.Core.Path.{_≡_, refl, sym, ap, _∙_, subst}
 use mathlib.Core.Bool.{Bool, true, false, cond}
 use mathlib.Core.List.{List, [], _∷_}
-use mathlib.Core.Option.{Option, none, some}
+use mathlib.Core.Option.{none, some}
 use native.Mathlib.Omega.{arith}
 use lib.Dec.{leb}
 use lib.ListN.{length, getD, take}
@@ -49,12 +49,12 @@ left-depth zero = refl
 left-depth (suc d) = refl
 
 -- a byte that is taken: the nodes, the word and the depth follow the bytes alone
-pub record Tracks (n : ℕ) (p : Phase) (κ : ByteKind) : Type 0 where
-  pub made : counted n (act p κ) ≡ n + news (inWord p) κ
-  pub within : inWord (to p (act p κ)) ≡ isLetter κ
-  pub deep : depth (to p (act p κ)) ≡ nest κ (depth p)
+record Tracks (n : ℕ) (p : Phase) (κ : ByteKind) : Type 0 where
+  made : counted n (act p κ) ≡ n + news (inWord p) κ
+  within : inWord (to p (act p κ)) ≡ isLetter κ
+  deep : depth (to p (act p κ)) ≡ nest κ (depth p)
 
-pub tracks : (n : ℕ) (p : Phase) (κ : ByteKind) → Taken (act p κ) → Tracks n p κ
+tracks : (n : ℕ) (p : Phase) (κ : ByteKind) → Taken (act p κ) → Tracks n p κ
 tracks n before Open h = record { made = omega arith; within = refl; deep = refl }
 tracks n before Close h = absurd h
 tracks n before Space h = absurd h

@@ -3,7 +3,7 @@
 -- Assumes nothing.
 use Prim.Native.Nat.{ℕ, zero, suc, _+_, _-_}
 use mathlib.Core.Path.{_≡_, refl, sym, ap, _∙_}
-use mathlib.Core.Bool.{Bool, cond, _&&_}
+use mathlib.Core.Bool.{cond, _&&_}
 use mathlib.Core.List.{List, [], _∷_, _++_, map}
 use mathlib.Core.Option.{some}
 use native.Mathlib.Omega.{arith}
@@ -55,20 +55,19 @@ no-old-reader h =
     let a = h .behind empty (0 ∷ []) bare bare bare (Accepted 0) (refused 13 2) (one-zero no-zero) (refl, refl) (refl, refl) .accepts refl (omega arith) in
     omega arith
 
--- ---- a reader that takes one zero and no more
+-- ---- a reader that takes one zero and no more: to it 00 behind the first is as 01
 
-abbrev lessOne : List ℕ → List ℕ
-lessOne [] = []
-lessOne (b ∷ []) = cond (eqb b 0) [] (b ∷ [])
-lessOne (b ∷ c ∷ s) = b ∷ lessOne (c ∷ s)
+abbrev firstOnly : List ℕ → List ℕ
+firstOnly [] = []
+firstOnly (b ∷ s) = cond (eqb b 0) (0 ∷ map hard s) (b ∷ firstOnly s)
 
 abbrev takesOne : Promise
-takesOne = reading (λ s. map hard (lessOne s))
+takesOne = reading firstOnly
 
 pub no-single-zero : ReadsZeros takesOne → ⊥
 unfolding outcome judge kindOf nodes nodesOf
 no-single-zero h =
-    let a = h .behind empty (0 ∷ 0 ∷ []) bare bare bare (Accepted 0) (refused 13 2) (one-zero (one-zero no-zero)) (refl, refl) (refl, refl) .accepts refl (omega arith) in
+    let a = h .behind empty (0 ∷ 0 ∷ []) bare bare bare (Accepted 0) (refused 13 3) (one-zero (one-zero no-zero)) (refl, refl) (refl, refl) .accepts refl (omega arith) in
     omega arith
 
 -- ---- a reader that takes a zero inside a group, for a space
@@ -93,12 +92,18 @@ no-zero-inside h =
 
 -- ---- a reader that passes over zeros before the group
 
+-- how many there are, and what follows them
+abbrev led : List ℕ → ℕ
+led [] = 0
+led (b ∷ s) = cond (eqb b 0) (led s + 1) 0
+
 abbrev unled : List ℕ → List ℕ
 unled [] = []
 unled (b ∷ s) = cond (eqb b 0) (unled s) (b ∷ s)
 
 abbrev passesOver : Promise
-passesOver = reading unled
+passesOver s t t′ r =
+    (r ≡ cond (leb (length s) 4096) (judge (bufferRoom t) (led s) 0 before (unled s)) (refused 11 0)) × (t′ ≡ written (told r .number) (nodes (led s) 0 [] before (unled s)) t)
 
 no-bytes : (xs : Items) → Text xs [] → ⊥
 unfolding runBy
@@ -106,7 +111,7 @@ no-bytes xs f = let e : some before ≡ some after = walk-text f .ran in let z :
 
 -- 00 "()"
 pub no-zero-first : ReadsZeros passesOver → ⊥
-unfolding outcome judge kindOf nodes nodesOf runBy wordsIn
+unfolding judge kindOf nodes runBy wordsIn
 no-zero-first h =
     not-13 (h .elsewhere (0 ∷ empty) bare bare (Accepted 0) 0 (refl, refl)
     (record { short = omega arith; viable = theorems .passes-capped [] before refl; roomy = omega arith }) (omega arith) no-bytes refl)
@@ -167,19 +172,42 @@ no-uncounted = no-uncounted-by 4095 refl
 
 -- ---- a reader that makes a node of a zero at the end
 
-abbrev oneMore : List ℕ → Reading → Reading
-oneMore s (Accepted n) = Accepted (cond (eqb (lastOf s) 0) (n + 1) n)
-oneMore s (Refused k p) = Refused k p
+abbrev oneMore : (room : ℕ) → List ℕ → Reading → Reading
+oneMore room s (Accepted n) = cond (eqb (lastOf s) 0) (cond (leb room n) (refused 14 (length s - 1)) (Accepted (n + 1))) (Accepted n)
+oneMore room s (Refused k p) = Refused k p
 
 abbrev zeroNode : List ℕ → List Node
 zeroNode s = cond (eqb (lastOf s) 0) (record { start = length s - 1; size = 1; parent = 65535; group = 0 } ∷ []) []
 
 abbrev makesNode : Promise
-makesNode s t t′ r = (r ≡ oneMore s (outcome (bufferRoom t) s)) × (t′ ≡ written (told r .number) (nodesOf s ++ zeroNode s) t)
+makesNode s t t′ r = (r ≡ oneMore (bufferRoom t) s (outcome (bufferRoom t) s)) × (t′ ≡ written (told r .number) (nodesOf s ++ zeroNode s) t)
 
 pub no-node-of-zero : ReadsZeros makesNode → ⊥
 unfolding outcome judge kindOf nodes nodesOf
 no-node-of-zero h =
     let a = h .behind empty (0 ∷ []) single single (buffers (2 ∷ []) (1 ∷ []) (65535 ∷ []) (0 ∷ [])) (Accepted 0) (Accepted 1) (one-zero no-zero) (refl, refl) (refl, refl) .same (omega arith) .0 in
     let z : _≡_ {A = ℕ} 1 0 = ap (λ (r : Reading). told r .nodes) a in
+    omega arith
+
+-- ---- a reader that looks for zeros inside the outer group before it judges anything else
+
+-- 13 at the first zero while d brackets are open, else what the rest gives
+abbrev sought : (at d : ℕ) → List ℕ → Reading → Reading
+sought at d [] rest = rest
+sought at d (b ∷ s) rest = cond (leb d 0) rest (cond (eqb b 0) (refused 13 at) (sought (at + 1) (nest (kindOf b) d) s rest))
+
+abbrev soughtIn : List ℕ → Reading → Reading
+soughtIn [] rest = rest
+soughtIn (b ∷ s) rest = sought 1 (nest (kindOf b) 0) s rest
+
+abbrev seeksZeros : Promise
+seeksZeros s t t′ r = (r ≡ cond (leb (length s) 4096) (soughtIn (stripped s) (outcome (bufferRoom t) s)) (refused 11 0)) × (t′ ≡ written (told r .number) (nodesOf s) t)
+
+-- "((" 00 ")"
+pub no-later-zero : ReadsZeros seeksZeros → ⊥
+unfolding outcome judge kindOf nodes nodesOf stripped
+no-later-zero h =
+    let s : List ℕ = 0x28 ∷ 0x28 ∷ 0 ∷ 0x29 ∷ [] in
+    let a = h .earlier s bare bare (refused 13 2) 13 1 2 (refl, refl) (theorems .refusals 0 13 1 s refl) (omega arith) (omega arith) refl in
+    let z : _≡_ {A = ℕ} 2 1 = ap (λ (r : Reading). told r .place) a in
     omega arith

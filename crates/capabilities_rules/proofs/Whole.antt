@@ -11,7 +11,7 @@ use Rattle.message_rules.specs.Answer.{textTooLong, wrongGrammar}
 use Rattle.message_rules.specs.Limits.{longestText}
 use Rattle.capabilities_rules.specs.Limits.{noParent}
 use Rattle.capabilities_rules.specs.Machine.{kindOf, Phase, before, inside, after, act, to}
-use Rattle.capabilities_rules.specs.Outcome.{judge, unless, fault, counted, refused, ending, outcome, isAccepted}
+use Rattle.capabilities_rules.specs.Outcome.{judge, unless, fault, counted, refused, ending, outcome}
 use Rattle.capabilities_rules.specs.Nodes.{nodes, nodeAt, begun, stack, top, latest}
 use Rattle.capabilities_rules.specs.Grammar.{Node}
 use Rattle.capabilities_rules.specs.Kinds.{Open, Close, Space, Letter, Zero, Other}

@@ -15,7 +15,7 @@ use Rattle.capabilities_rules.specs.Machine.{kindOf, Phase, before, insi
 use Rattle.capabilities_rules.specs.Outcome.{told, judge, unless, fault, counted, refused, ending, outcome}
 use Rattle.capabilities_rules.specs.Nodes.{nodesOf}
 use Rattle.capabilities_rules.specs.Buffers.{Buffers, written, Answered}
-use Rattle.capabilities_rules.specs.Prefixes.{Viable, Clear, wrong-byte}
+use Rattle.capabilities_rules.specs.Prefixes.{Viable, wrong-byte}
 use Rattle.capabilities_rules.specs.Demand2.{roomIn, Promise, Demand2}
 use Rattle.capabilities_rules.specs.Zeros.{ReadAlike, ReadsZeros}
 use Rattle.capabilities_rules.specs.Kinds.{Free, Word, Gap}
@@ -145,6 +145,7 @@ reads-zeros P d = record {
   behind = λ s z t t′ t″ r q sz a b. read-alike s z t t′ t″ r q sz (answered s t t′ r (d .rightly s t t′ r a)) (answered (s ++ z) t t″ q (d .rightly (s ++ z) t t″ q b));
   nothing-else = λ s t t′ r p xs a c h f other. d .rightly s t t′ r a .refused-there 13 p (wrong-byte c h (not-behind s p xs h f other));
   elsewhere = λ s t t′ r p a c h no-text is. d .rightly s t t′ r a .refused-there 13 p (wrong-byte c h (not-elsewhere s p h no-text is));
+  earlier = λ s t t′ r k p q a w before within is. d .rightly s t t′ r a .refused-there k p w;
 }
 
 -- so does `capabilities_reader::read`

@@ -1,5 +1,6 @@
 -- Document 02, K2, "Zero bytes after the capability text", sentence by sentence.
--- Said of any reader's promise, so that wrong readers can be refuted. Its numbers are the papers' own.
+-- Said of any reader's promise, so that wrong readers can be refuted; that it can be kept is demand 2's matter.
+-- Its numbers are the papers' own.
 use Prim.Native.Nat.{ℕ, _≤_, _<_}
 use mathlib.Core.Path.{_≡_}
 use mathlib.Core.List.{List, _++_}
@@ -7,7 +8,7 @@ use lib.ListN.{length, getD, take}
 use Rattle.capabilities_rules.specs.Grammar.{Items, Zeros, Text}
 use Rattle.capabilities_rules.specs.Outcome.{told, refused}
 use Rattle.capabilities_rules.specs.Buffers.{Buffers}
-use Rattle.capabilities_rules.specs.Prefixes.{Clear}
+use Rattle.capabilities_rules.specs.Prefixes.{Clear, Why}
 use Rattle.capabilities_rules.specs.Demand2.{roomIn, Promise}
 use Rattle.capabilities_rules.specs.declared.Reading.{Reading}
 
@@ -22,7 +23,7 @@ pub record ReadAlike (s z : List ℕ) (t t′ t″ : Buffers) (r q : Reading) : 
   -- "The 4,096 limit counts them."
   pub counted : 4096 < length (s ++ z) → (q ≡ refused 11 0) × (t″ ≡ t)
 
--- A place is judged where nothing is refused before it (`Clear`): "an earlier refused place still wins".
+-- `Clear`: nothing is refused before the place.
 pub record ReadsZeros (P : Promise) : Type 0 where
   -- "after the outer group any number of 00 bytes may follow"
   pub behind : (s z : List ℕ) (t t′ t″ : Buffers) (r q : Reading) → Zeros z → P s t t′ r → P (s ++ z) t t″ q → ReadAlike s z t t′ t″ r q
@@ -32,3 +33,6 @@ pub record ReadsZeros (P : Promise) : Type 0 where
   -- "A 00 anywhere else is 13 at its place": where the bytes before it are no text
   pub elsewhere : (s : List ℕ) (t t′ : Buffers) (r : Reading) (p : ℕ) → P s t t′ r → Clear (roomIn t) p s → p < length s
       → ((xs : Items) → Text xs (take p s) → ⊥) → getD s p 0 ≡ 0 → r ≡ refused 13 p
+  -- "an earlier refused place still wins": where there is a reason at p, a 00 further on changes nothing
+  pub earlier : (s : List ℕ) (t t′ : Buffers) (r : Reading) (k p q : ℕ) → P s t t′ r → Why (roomIn t) s k p → p < q → q < length s
+      → getD s q 0 ≡ 0 → r ≡ refused k p

@@ -268,8 +268,8 @@ fn zeros_behind() {
     report(b"zeros behind", t);
 }
 
-// Runs what may not stand behind the outer group and zeros: anything but a zero, which is 13 at its position.
-fn behind_zeros() {
+// Runs other bytes behind the outer group, with zeros before them or without: 13 at the first that is no zero.
+fn others_behind() {
     let mut forty = [0u8; 43];
     listed(&mut forty, 1, b'a', b'a');
     put(&mut forty, 42, b'a');
@@ -282,7 +282,7 @@ fn behind_zeros() {
     t = wrong(t, b"()\0)", 3);
     t = wrong(t, b"()\0\x01\0", 3);
     t = wrong(t, b"() \0", 2);
-    report(b"behind zeros", t);
+    report(b"other bytes behind", t);
 }
 
 // Runs zeros anywhere else, each 13 at its position, unless an earlier position is refused.
@@ -382,7 +382,7 @@ fn main() {
     length();
     room();
     zeros_behind();
-    behind_zeros();
+    others_behind();
     zeros_elsewhere();
     zeros_counted();
     monitors();

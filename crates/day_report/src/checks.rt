@@ -34,7 +34,7 @@ pub fn never_called(household: u32) {
     line(b"household # by NO ENTRY\n", &[household as u64]);
 }
 
-// Writes that a string is accepted though it ends with zeros, and how many words it has.
+// Writes that the second display's string, which ends with two zeros, is accepted, and how many words it has.
 pub fn words(words: usize) {
     line(
         b"    accepted, with # words: the two zero bytes at its end make none\n",

@@ -7,7 +7,7 @@ use message_rules::answer;
 use show::text;
 
 // Writes which byte is refused. A line end behind the string is the one that `echo` leaves.
-// A zero byte is refused where a bracket is still open, or none was.
+// A zero byte is refused where a bracket is still open, or none was opened yet.
 fn refused_byte(to: i32, place: Position, b: u8) {
     show::counted(to, b": byte ", place.0 as u64, b" is ");
     show::hex(to, b);
@@ -19,7 +19,7 @@ fn refused_byte(to: i32, place: Position, b: u8) {
     } else if b == 0 {
         text(
             to,
-            b", a zero byte, which may stand only behind the last bracket",
+            b", a zero byte, which may only follow the bracket that closes the string",
         );
     }
 }

@@ -31,7 +31,7 @@ pub(crate) struct Ended {
     pub(crate) count: u16,
     // Whether the buffer is as demand 3 says.
     pub(crate) right: bool,
-    // What reading the bytes that came answers, as a capabilities string.
+    // What reading the bytes that came as a capabilities string answers, whatever text they are.
     pub(crate) reading: Reading,
 }
 

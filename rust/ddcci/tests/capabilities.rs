@@ -157,7 +157,7 @@ fn limits_of_depth_length_and_room() {
     }
 }
 
-/// The place of a refusal 13.
+/// Refusal 13 at this place.
 fn wrong_grammar(position: usize) -> Result<usize, RefusedAt> {
     Err(RefusedAt { refusal: Refusal::WrongGrammar, position })
 }

@@ -75,13 +75,9 @@ fn a_refusal_is_one_line_and_the_reason_another() {
         (
             b"(vcp(10)\0",
             "refused 13 at 8\n",
-            "13, not in the grammar: byte 8 is 00, a zero byte, which may stand only behind",
+            "13, not in the grammar: byte 8 is 00, a zero byte, which may only follow",
         ),
-        (
-            b"\0()",
-            "refused 13 at 0\n",
-            "13, not in the grammar: byte 0 is 00, a zero byte, which may stand only behind",
-        ),
+        (b"\0()", "refused 13 at 0\n", "13, not in the grammar: byte 0 is 00, a zero byte, which may only follow"),
         (b"(vcp(10))\0\n", "refused 13 at 10\n", "13, not in the grammar: byte 10 is 0A, a line end: remove it"),
         (b"()\0a", "refused 13 at 3\n", "13, not in the grammar: byte 3 is 61\n"),
         (b"", "refused 13 at 0\n", "13, not in the grammar: it is empty"),

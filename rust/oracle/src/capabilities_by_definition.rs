@@ -82,8 +82,8 @@ pub fn parse(text: &[u8]) -> Result<Vec<Node>, usize> {
 ///
 /// Searched among all continuations by the bytes `( ) a`, space and 00, up to a
 /// length that closes as many groups as the prefix can have open (each needs a
-/// bracket, and all but the first a word before it). 00 bytes need no longer
-/// one: what is accepted with some of them at its end is accepted with fewer.
+/// bracket, and all but the first a word before it). 00 bytes need no greater
+/// length: what is accepted with some at its end is accepted with fewer.
 /// Other word bytes count as `a` in every rule, and the remaining bytes stand in
 /// no rule.
 pub fn is_viable(prefix: &[u8]) -> bool {

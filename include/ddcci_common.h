@@ -10,10 +10,10 @@
 #include <stdint.h>
 
 /* The version of the headers and of the archives that they go with. */
-#define DDCCI_VERSION "0.5.0"
+#define DDCCI_VERSION "0.5.1"
 #define DDCCI_VERSION_MAJOR 0
 #define DDCCI_VERSION_MINOR 5
-#define DDCCI_VERSION_PATCH 0
+#define DDCCI_VERSION_PATCH 1
 
 /* The bytes of the longest message of either direction, and the least output of a builder. */
 #define DDCCI_LONGEST_MESSAGE 38

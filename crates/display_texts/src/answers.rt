@@ -6,9 +6,10 @@ ghost use lib.ListN.{length};
 ghost use Rattle.buffers.specs.Buffers.{partOf};
 ghost use Rattle.message_rules.specs.Limits.{mostFragment};
 ghost use Rattle.display_rules.specs.Turn.{bytesOf};
-ghost use Rattle.display_rules.specs.Fragments.{lesser, nextCursor, fragmentReply};
+ghost use Rattle.display_rules.specs.Fragments.{lesser, nextCursor, foundBytes, fragmentReply};
+ghost use Rattle.display_rules.specs.declared.Found.the-variants.{Fragment};
 ghost use Rattle.display_pending.specs.Send.{Sent};
-ghost use Rattle.display_texts.specs.Answers.{Reads, ReadsTable, WritesTable};
+ghost use Rattle.display_texts.specs.Answers.{replyFrom, Reads, ReadsTable, WritesTable};
 use crate::fragments;
 use crate::table;
 use display_pending::Pending;
@@ -41,6 +42,29 @@ fn fragment(kind: TextKind, c: FragmentCursor, bytes: &[u8], out: &mut [u8]) -> 
     }
 }
 
+// Returns the fragment that a read at the offset q finds, of at most `most` bytes, and of 32.
+fn cursor_at(state: TextState, most: u16, q: TextOffset) -> FragmentCursor
+    ensures { λ r. ⌜ r ≡ nextCursor (lesser most mostFragment) state (q .0) ⌝ }
+{
+    let size = fragments::lesser(most, MOST_FRAGMENT as u16);
+    fragments::next_cursor(size, state, q)
+}
+
+// Sends the fragment at a cursor, whose bytes are copied out of its text, and returns the length of the reply.
+// It is 0, and nothing is written, where `fragment` says so.
+fn send_at<'a>(
+    kind: TextKind,
+    c: FragmentCursor,
+    text: &'a [u8],
+    table: &'a [u8],
+    out: &mut [u8],
+) -> usize
+    ensures { λ r. ⌜ Sent (leb (length (foundBytes (now (text .entry)) (now (table .entry)) (Fragment kind c))) mostFragment) (replyFrom kind c (now (text .entry)) (now (table .entry))) (now (out .entry)) (now (out .exit)) r ⌝ }
+{
+    let bytes = fragments::handed_back(text, table, Found::Fragment(kind, c));
+    fragment(kind, c, bytes, out)
+}
+
 // Answers a read of one of the two texts: its next fragment, of at most `most` bytes, is copied into the reply.
 pub fn read<'a>(
     kind: TextKind,
@@ -53,15 +77,14 @@ pub fn read<'a>(
 ) -> Pending
     ensures { λ r. ⌜ Reads kind (nextCursor (lesser most mostFragment) state (q .0)) (now (text .entry)) (now (table .entry)) (now (out .entry)) (now (out .exit)) r ⌝ }
 {
-    let size = fragments::lesser(most, MOST_FRAGMENT as u16);
-    let cursor = fragments::next_cursor(size, state, q);
-    let found = Found::Fragment(kind, cursor);
-    let bytes = fragments::handed_back(text, table, found);
-    let length = fragment(kind, cursor, bytes, out);
+    let cursor = cursor_at(state, most, q);
+    let length = send_at(kind, cursor, text, table, out);
     Pending::Moved(kind, cursor, length)
 }
 
 // Answers a read of the table: 8 and the null message for another code than F4.
+// It does not call `read`: what they share is then small enough for the compiler to put into the step.
+// Else each step copied the display once more.
 pub fn table_read<'a>(
     state: TextState,
     most: u16,
@@ -76,7 +99,9 @@ pub fn table_read<'a>(
     if code != TABLE_CODE {
         return Pending::Refused(answer::CODE_NOT_ALLOWED, send::null(out));
     }
-    read(TextKind::Table, state, most, text, table, q, out)
+    let cursor = cursor_at(state, most, q);
+    let length = send_at(TextKind::Table, cursor, text, table, out);
+    Pending::Moved(TextKind::Table, cursor, length)
 }
 
 // Answers a write to the table, which has `old` bytes.

@@ -102,7 +102,6 @@ pub fn head_answer(direction: Direction, a: Address, s: &[u8]) -> u8
 // Returns the answer of the frame's tests that are left: 4 for the other form of length byte, then 5.
 // It is 0 if none fails.
 // The last byte is compared with the checksum of those in front of it.
-// A sum that is only compared with 0 is not taken several bytes at a time in the compiled code.
 // A slice that ends before its last byte counts as one that has 0 there: behind the head's tests there is none.
 pub fn tail_answer(a: Address, plain: bool, s: &[u8]) -> u8
     ensures { λ r. ⌜ r ≡ tailAnswer a plain (now (s .entry)) ⌝ }

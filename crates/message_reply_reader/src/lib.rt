@@ -2,16 +2,21 @@
 mod table;
 
 ghost use mathlib.Core.Path.{_≡_};
+ghost use mathlib.Core.Bool.{_&&_};
 ghost use Prim.Native.Nat.{_+_, _<_};
+ghost use lib.Dec.{ltb};
 ghost use lib.ListN.{length, getD};
 ghost use Rattle.message_rules.specs.Body.{word};
+ghost use Rattle.message_rules.specs.Frame.{bodyLength};
 ghost use Rattle.message_rules.specs.Message.{decode, replies, toHost};
 ghost use Rattle.message_rules.specs.Row as row;
 ghost use Rattle.message_rules.specs.declared.ReplyKind.the-variants as kinds;
 ghost use Rattle.message_reply_reader.specs.Outcome.{ReplyMeans, ReplyHolds};
 ghost use Rattle.message_frame.specs.Meaning.{Readable};
-ghost use Rattle.message_frame.specs.Parts.{bodyIn};
+ghost use Rattle.message_frame.specs.Parts.{tailAnswer, bodyIn};
 ghost use Rattle.message_reply_reader.specs.Start.{startsWith, nullBytes};
+ghost use Rattle.message_reply_reader.specs.Table.{rowIn, unlessEmpty};
+use crate::table::ReplyRow;
 use crate::table::ReplyVerdict;
 use buffers::wide16;
 use message_rules::Address;
@@ -163,23 +168,26 @@ fn fields(kind: ReplyKind, s: &[u8]) -> ReplyRead
     }
 }
 
-// Returns what the tests of a reply come to in the papers' order, but those of its fields.
-// The frame's tests take the form of the length byte from the row, those of the body the length and the kind.
-fn tested(a: Address, s: &[u8]) -> ReplyVerdict
-    ensures { λ r. ⌜ ReplyHolds a (now (s .entry)) r ⌝ }
+// Returns the row of the command number that stands in a reply, for the length of its body.
+fn row_in(s: &[u8]) -> ReplyRow
+    ensures { λ r. ⌜ r ≡ rowIn (now (s .entry)) ⌝ }
 {
-    let head = message_frame::head_answer(Direction::Reply, a, s);
-    if head != answer::DONE {
-        return ReplyVerdict::Refused(head);
-    }
-    let n = message_frame::body_length(s);
-    let row = table::reply_row(message_frame::command(s), n);
-    let plain = message_frame::body_plain(row.plain, n);
-    let tail = message_frame::tail_answer(a, plain, s);
-    if tail != answer::DONE {
-        return ReplyVerdict::Refused(tail);
-    }
-    if n == 0 {
+    table::reply_row(message_frame::command(s), message_frame::body_length(s))
+}
+
+// Returns the answer of the frame's tests behind the head, given the form that the row has: 4, 5, or 0 if none fails.
+fn tail_by(a: Address, plain: bool, s: &[u8]) -> u8
+    ensures { λ r. ⌜ r ≡ tailAnswer a (plain && ltb 0 (bodyLength (now (s .entry)))) (now (s .entry)) ⌝ }
+{
+    let form = message_frame::body_plain(plain, message_frame::body_length(s));
+    message_frame::tail_answer(a, form, s)
+}
+
+// Returns the verdict of the row, or 12 where the body is empty: behind a right frame that is the null message.
+fn verdict_by(row: ReplyRow, s: &[u8]) -> ReplyVerdict
+    ensures { λ r. ⌜ r ≡ unlessEmpty (row .verdict) (now (s .entry)) ⌝ }
+{
+    if message_frame::body_length(s) == 0 {
         return ReplyVerdict::Refused(answer::NULL_MESSAGE);
     }
     row.verdict
@@ -197,10 +205,21 @@ fn read_tested(a: Address, verdict: ReplyVerdict, s: &[u8]) -> ReplyRead
 }
 
 // Reads a reply that came from an address: returns the message, or the first refusal in the papers' order.
+// The tests of the frame take the form of the length byte from the row, those of the body the length and the kind.
+// Either reader goes through the steps itself: each step is small enough for the compiler to put it into both.
 pub fn read_reply(a: Address, s: &[u8]) -> ReplyRead
     ensures { λ r. ⌜ ReplyMeans (now (s .entry)) r (decode replies a (now (s .entry))) ⌝ }
 {
-    let verdict = tested(a, s);
+    let head = message_frame::head_answer(Direction::Reply, a, s);
+    if head != answer::DONE {
+        return ReplyRead::Refused(head);
+    }
+    let row = row_in(s);
+    let tail = tail_by(a, row.plain, s);
+    if tail != answer::DONE {
+        return ReplyRead::Refused(tail);
+    }
+    let verdict = verdict_by(row, s);
     read_tested(a, verdict, s)
 }
 
@@ -235,6 +254,15 @@ pub fn read_display_reply(s: &[u8]) -> ReplyRead
     if is_null(s) {
         return ReplyRead::Refused(answer::NULL_MESSAGE);
     }
-    let verdict = tested(TO_HOST, s);
+    let head = message_frame::head_answer(Direction::Reply, TO_HOST, s);
+    if head != answer::DONE {
+        return ReplyRead::Refused(head);
+    }
+    let row = row_in(s);
+    let tail = tail_by(TO_HOST, row.plain, s);
+    if tail != answer::DONE {
+        return ReplyRead::Refused(tail);
+    }
+    let verdict = verdict_by(row, s);
     read_tested(TO_HOST, verdict, s)
 }

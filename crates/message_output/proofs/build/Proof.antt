@@ -29,11 +29,11 @@ returns-2 c =
     builds-refused _ (closed (a .seed) (a .head .now ++ a .«data» .now)) (a .out .now) (too-long (a .seed) (a .head .now) (a .«data» .now) true (c .if2 .taken))
     (Refused wrongField) (rw (le-leb outputRoom (length (a .out .now)) (c .before .if1 .left)))
 
+singly-requires : tie.Need-singly-requires
+singly-requires c κs = search needs
+
 checksum-requires : tie.Need-checksum-requires
 checksum-requires c κs = search needs
-
-checksum-requires-2 : tie.Need-checksum-requires-2
-checksum-requires-2 c κs = search needs
 
 copy-requires : tie.Need-copy-requires
 copy-requires c κs = search needs
@@ -64,11 +64,11 @@ returns-3 c =
     let b = c .before .before .before .before .before .before .before .before .before .before in
     let k = b .before .before in
     let a = k .before .before .before .before .before .before .before .args in
-    let sum : k .checksum2 .result ≡ xorAll (xorAll (a .seed) (a .head .now)) (a .«data» .now) = k .checksum2 .ensures ∙ ap (λ (s : ℕ). xorAll s (a .«data» .now)) (k .before .checksum .ensures) in
+    let sum : k .checksum .result ≡ xorAll (xorAll (a .seed) (a .head .now)) (a .«data» .now) = k .checksum .ensures ∙ ap (λ (s : ℕ). xorAll s (a .«data» .now)) (k .before .singly .ensures) in
     let head = b .copy in
     let more = c .before .before .before .before .before .before .copy2 in
     let f = c .before .before .close in
-    let e = built (a .seed) (k .checksum2 .result) (head .result) (more .result) (length (head .last .1 .0)) (f .result) (a .head .now) (a .«data» .now) (a .out .now) (head .last .1 .0) (more .last .1 .0) (f .last .1 .1 .0)
+    let e = built (a .seed) (k .checksum .result) (head .result) (more .result) (length (head .last .1 .0)) (f .result) (a .head .now) (a .«data» .now) (a .out .now) (head .last .1 .0) (more .last .1 .0) (f .last .1 .1 .0)
     (omega arith) sum (head .ensures .0) (head .ensures .1) refl (more .ensures .0) (more .ensures .1) (f .ensures .0) (f .ensures .1) in
     builds-done _ (closed (a .seed) (a .head .now ++ a .«data» .now)) (a .out .now) (omega arith) (short-enough (a .seed) (a .head .now) (a .«data» .now) true (omega arith)) (f .result) (f .last .1 .1 .0) (e .0) (e .1)
 
@@ -79,8 +79,8 @@ build-spec =
     returns
     add-if2
     returns-2
+    singly-requires
     checksum-requires
-    checksum-requires-2
     copy-requires
     sub-copy
     part-copy-start

@@ -1,7 +1,13 @@
--- `message_reply_reader::read_display_reply` meets its contract: what begins with the fixed string is the null message.
+-- `message_reply_reader::read_display_reply` meets its contract: what begins with the fixed string is the null message, all else is read as any reply is.
 -- Assumes nothing.
-use mathlib.Core.Path.{sym, _∙_}
+use mathlib.Core.Path.{sym, _∙_, subst}
+use Rattle.message_rules.specs.Message.{replies, toHost}
+use Rattle.message_frame.proofs.Meanings.{means-of}
+use Rattle.message_frame.proofs.Verdicts.{head-refused}
+use Rattle.message_reply_reader.specs.Outcome.{ReplyHolds}
+use Rattle.message_reply_reader.proofs.Readings.{reply-refused}
 use Rattle.message_reply_reader.proofs.Starts.{null-answer}
+use Rattle.message_reply_reader.proofs.Verdicts.{reply-tail-refused, reply-holds}
 use borrow.Author.Needs.{needs}
 use Rattle.message_reply_reader.proofs.read_display_reply.Statement.{statement}
 use Rattle.message_reply_reader.proofs.read_display_reply.Tie as tie
@@ -12,14 +18,42 @@ is-null-requires c κs = search needs
 returns : tie.Need-returns
 returns c = record { means = sym (null-answer (c .before .before .before .args .s .now) (sym (c .before .is-null .ensures) ∙ c .if1 .taken)); inside = tt }
 
-tested-requires : tie.Need-tested-requires
-tested-requires c κs = search needs
-
-read-tested-requires : tie.Need-read-tested-requires
-read-tested-requires c κs = c .tested .ensures
+head-answer-requires : tie.Need-head-answer-requires
+head-answer-requires c κs = search needs
 
 returns-2 : tie.Need-returns-2
-returns-2 c = c .read-tested .ensures
+returns-2 c =
+    let head = c .before .head-answer in
+    let a = c .before .before .before .before .before .args in
+    means-of (head-refused replies toHost (a .s .now) (head .ensures) (c .if2 .taken)) (reply-refused (a .s .now) (head .result))
+
+row-in-requires : tie.Need-row-in-requires
+row-in-requires c κs = search needs
+
+tail-by-requires : tie.Need-tail-by-requires
+tail-by-requires c κs = search needs
+
+returns-3 : tie.Need-returns-3
+returns-3 c =
+    let tail = c .before in
+    let row = tail .before in
+    let head = row .before .before in
+    let a = head .before .before .before .before .args in
+    means-of (reply-tail-refused toHost (a .s .now) (row .row-in .ensures) (head .head-answer .ensures) (row .before .if2 .left) (tail .tail-by .ensures) (c .if3 .taken)) (reply-refused (a .s .now) (tail .tail-by .result))
+
+verdict-by-requires : tie.Need-verdict-by-requires
+verdict-by-requires c κs = search needs
+
+read-tested-requires : tie.Need-read-tested-requires
+read-tested-requires c κs =
+    let tail = c .before .before in
+    let row = tail .before in
+    let head = row .before .before in
+    let a = head .before .before .before .before .args in
+    subst (ReplyHolds toHost (a .s .now)) (sym (c .verdict-by .ensures)) (reply-holds toHost (a .s .now) (row .row-in .ensures) (head .head-answer .ensures) (row .before .if2 .left) (tail .tail-by .ensures) (c .before .if3 .left))
+
+returns-4 : tie.Need-returns-4
+returns-4 c = c .read-tested .ensures
 
 pub read-display-reply-spec : {M : Type 1} → statement M
 read-display-reply-spec =
@@ -27,6 +61,11 @@ read-display-reply-spec =
     (tie.spec
     is-null-requires
     returns
-    tested-requires
+    head-answer-requires
+    returns-2
+    row-in-requires
+    tail-by-requires
+    returns-3
+    verdict-by-requires
     read-tested-requires
-    returns-2)
+    returns-4)

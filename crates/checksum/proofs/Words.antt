@@ -38,7 +38,7 @@ pub packed-one : (s : List ℕ) (at : ℕ) → at < length s → packed (take 1 
 unfolding packed
 packed-one s at h = ap (λ (l : List ℕ). packed (take 1 l)) (drop-cons s at 0 h) ∙ omega arith
 
--- n bytes, and n behind them shifted past them, are twice as many
+-- n bytes, and n behind them shifted past them, are twice as many: up to 4 and 4, which fill 64 bits
 pub packed-doubled : (n x y : ℕ) (s : List ℕ) (at : ℕ) → ((i : ℕ) → getD s i 0 < 256) → at + (n + n) ≤ length s → n ≤ 4
     → x ≡ packed (take n (drop at s)) → y ≡ packed (take n (drop (at + n) s))
     → bitOr x ((y * 2 ^ (8 * n)) % 2 ^ 64) ≡ packed (take (n + n) (drop at s))
@@ -66,7 +66,7 @@ xor-exchange a b c d =
     ∙ ap (bitXor a) (sym (xor-assoc b c d) ∙ ap (λ (x : ℕ). bitXor x d) (xor-comm b c) ∙ xor-assoc c b d)
     ∙ sym (xor-assoc a c (bitXor b d))
 
-pub folded-xor : (n a b : ℕ) → folded n (bitXor a b) ≡ bitXor (folded n a) (folded n b)
+folded-xor : (n a b : ℕ) → folded n (bitXor a b) ≡ bitXor (folded n a) (folded n b)
 unfolding folded
 folded-xor zero a b = refl
 folded-xor (suc n) a b =

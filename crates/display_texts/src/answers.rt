@@ -42,7 +42,8 @@ fn fragment(kind: TextKind, c: FragmentCursor, bytes: &[u8], out: &mut [u8]) -> 
     }
 }
 
-// Returns the fragment that a read at the offset q finds, of at most `most` bytes, and of 32.
+// Returns the cursor of the fragment that a read at the offset q finds.
+// The fragment has at most `most` bytes, and at most 32.
 fn cursor_at(state: TextState, most: u16, q: TextOffset) -> FragmentCursor
     ensures { λ r. ⌜ r ≡ nextCursor (lesser most mostFragment) state (q .0) ⌝ }
 {

@@ -1,4 +1,5 @@
 -- The replies of the table as the code goes through them: a command number and the length of the body give a row: the form of the length byte, and a kind, 7 or 6.
+-- Then of a slice: the row of the number that stands in it, and 12 where it has none.
 use Prim.Native.Nat.{ℕ}
 use mathlib.Core.Bool.{false, cond}
 use mathlib.Core.List.{List}
@@ -32,9 +33,9 @@ replyRow (Known (kind.Reply c) l) n = replyOf c (shapeOf l) n
 replyRow Unknown n = unknownReply
 
 -- the row of the command number that stands in a slice, for the length of its body
-abbrev pub rowIn : List ℕ → ReplyRow
-rowIn s = replyRow (rowOf Reply (getD s 2 0)) (bodyLength s)
+abbrev pub replyRowIn : List ℕ → ReplyRow
+replyRowIn s = replyRow (rowOf Reply (getD s 2 0)) (bodyLength s)
 
--- 12: "the null message", whose body is empty
+-- 12: "null message read by the post"; its body is empty
 abbrev pub unlessEmpty : ReplyVerdict → List ℕ → ReplyVerdict
 unlessEmpty v s = cond (eqb (bodyLength s) 0) (reply.Refused nullMessage) v

@@ -15,7 +15,7 @@ ghost use Rattle.message_reply_reader.specs.Outcome.{ReplyMeans, ReplyHo
 ghost use Rattle.message_frame.specs.Meaning.{Readable};
 ghost use Rattle.message_frame.specs.Parts.{tailAnswer, bodyIn};
 ghost use Rattle.message_reply_reader.specs.Start.{startsWith, nullBytes};
-ghost use Rattle.message_reply_reader.specs.Table.{rowIn, unlessEmpty};
+ghost use Rattle.message_reply_reader.specs.Table.{replyRowIn, unlessEmpty};
 use crate::table::ReplyRow;
 use crate::table::ReplyVerdict;
 use buffers::wide16;
@@ -170,7 +170,7 @@ fn fields(kind: ReplyKind, s: &[u8]) -> ReplyRead
 
 // Returns the row of the command number that stands in a reply, for the length of its body.
 fn row_in(s: &[u8]) -> ReplyRow
-    ensures { λ r. ⌜ r ≡ rowIn (now (s .entry)) ⌝ }
+    ensures { λ r. ⌜ r ≡ replyRowIn (now (s .entry)) ⌝ }
 {
     table::reply_row(message_frame::command(s), message_frame::body_length(s))
 }
@@ -248,6 +248,7 @@ pub fn is_null(s: &[u8]) -> bool
 }
 
 // Reads a reply of the display, the null message by its bytes: returns the message, or the first refusal.
+// Behind that the steps are those of `read_reply`.
 pub fn read_display_reply(s: &[u8]) -> ReplyRead
     ensures { λ r. ⌜ ReplyMeans (now (s .entry)) r (decode replies toHost (now (s .entry))) ⌝ }
 {

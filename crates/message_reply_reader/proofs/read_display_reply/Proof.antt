@@ -1,13 +1,9 @@
 -- `message_reply_reader::read_display_reply` meets its contract: what begins with the fixed string is the null message, all else is read as any reply is.
 -- Assumes nothing.
-use mathlib.Core.Path.{sym, _∙_, subst}
-use Rattle.message_rules.specs.Message.{replies, toHost}
-use Rattle.message_frame.proofs.Meanings.{means-of}
-use Rattle.message_frame.proofs.Verdicts.{head-refused}
-use Rattle.message_reply_reader.specs.Outcome.{ReplyHolds}
-use Rattle.message_reply_reader.proofs.Readings.{reply-refused}
+use mathlib.Core.Path.{sym, _∙_}
+use Rattle.message_rules.specs.Message.{toHost}
 use Rattle.message_reply_reader.proofs.Starts.{null-answer}
-use Rattle.message_reply_reader.proofs.Verdicts.{reply-tail-refused, reply-holds}
+use Rattle.message_reply_reader.proofs.Verdicts.{head-read, tail-read, verdict-holds}
 use borrow.Author.Needs.{needs}
 use Rattle.message_reply_reader.proofs.read_display_reply.Statement.{statement}
 use Rattle.message_reply_reader.proofs.read_display_reply.Tie as tie
@@ -25,7 +21,7 @@ returns-2 : tie.Need-returns-2
 returns-2 c =
     let head = c .before .head-answer in
     let a = c .before .before .before .before .before .args in
-    means-of (head-refused replies toHost (a .s .now) (head .ensures) (c .if2 .taken)) (reply-refused (a .s .now) (head .result))
+    head-read toHost (a .s .now) (head .ensures) (c .if2 .taken)
 
 row-in-requires : tie.Need-row-in-requires
 row-in-requires c κs = search needs
@@ -39,7 +35,7 @@ returns-3 c =
     let row = tail .before in
     let head = row .before .before in
     let a = head .before .before .before .before .args in
-    means-of (reply-tail-refused toHost (a .s .now) (row .row-in .ensures) (head .head-answer .ensures) (row .before .if2 .left) (tail .tail-by .ensures) (c .if3 .taken)) (reply-refused (a .s .now) (tail .tail-by .result))
+    tail-read toHost (a .s .now) (row .row-in .ensures) (head .head-answer .ensures) (row .before .if2 .left) (tail .tail-by .ensures) (c .if3 .taken)
 
 verdict-by-requires : tie.Need-verdict-by-requires
 verdict-by-requires c κs = search needs
@@ -50,7 +46,7 @@ read-tested-requires c κs =
     let row = tail .before in
     let head = row .before .before in
     let a = head .before .before .before .before .args in
-    subst (ReplyHolds toHost (a .s .now)) (sym (c .verdict-by .ensures)) (reply-holds toHost (a .s .now) (row .row-in .ensures) (head .head-answer .ensures) (row .before .if2 .left) (tail .tail-by .ensures) (c .before .if3 .left))
+    verdict-holds toHost (a .s .now) (row .row-in .ensures) (head .head-answer .ensures) (row .before .if2 .left) (tail .tail-by .ensures) (c .before .if3 .left) (c .verdict-by .ensures)
 
 returns-4 : tie.Need-returns-4
 returns-4 c = c .read-tested .ensures

@@ -1,12 +1,6 @@
 -- `message_reply_reader::read_reply` meets its contract: a refusal of the head, one of the tail, or what the verdict says.
 -- Assumes nothing.
-use mathlib.Core.Path.{sym, subst}
-use Rattle.message_rules.specs.Message.{replies}
-use Rattle.message_frame.proofs.Meanings.{means-of}
-use Rattle.message_frame.proofs.Verdicts.{head-refused}
-use Rattle.message_reply_reader.specs.Outcome.{ReplyHolds}
-use Rattle.message_reply_reader.proofs.Readings.{reply-refused}
-use Rattle.message_reply_reader.proofs.Verdicts.{reply-tail-refused, reply-holds}
+use Rattle.message_reply_reader.proofs.Verdicts.{head-read, tail-read, verdict-holds}
 use borrow.Author.Needs.{needs}
 use Rattle.message_reply_reader.proofs.read_reply.Statement.{statement}
 use Rattle.message_reply_reader.proofs.read_reply.Tie as tie
@@ -18,7 +12,7 @@ returns : tie.Need-returns
 returns c =
     let head = c .before .head-answer in
     let a = c .before .before .before .args in
-    means-of (head-refused replies (a .a) (a .s .now) (head .ensures) (c .if1 .taken)) (reply-refused (a .s .now) (head .result))
+    head-read (a .a) (a .s .now) (head .ensures) (c .if1 .taken)
 
 row-in-requires : tie.Need-row-in-requires
 row-in-requires c κs = search needs
@@ -32,7 +26,7 @@ returns-2 c =
     let row = tail .before in
     let head = row .before .before in
     let a = head .before .before .args in
-    means-of (reply-tail-refused (a .a) (a .s .now) (row .row-in .ensures) (head .head-answer .ensures) (row .before .if1 .left) (tail .tail-by .ensures) (c .if2 .taken)) (reply-refused (a .s .now) (tail .tail-by .result))
+    tail-read (a .a) (a .s .now) (row .row-in .ensures) (head .head-answer .ensures) (row .before .if1 .left) (tail .tail-by .ensures) (c .if2 .taken)
 
 verdict-by-requires : tie.Need-verdict-by-requires
 verdict-by-requires c κs = search needs
@@ -43,7 +37,7 @@ read-tested-requires c κs =
     let row = tail .before in
     let head = row .before .before in
     let a = head .before .before .args in
-    subst (ReplyHolds (a .a) (a .s .now)) (sym (c .verdict-by .ensures)) (reply-holds (a .a) (a .s .now) (row .row-in .ensures) (head .head-answer .ensures) (row .before .if1 .left) (tail .tail-by .ensures) (c .before .if2 .left))
+    verdict-holds (a .a) (a .s .now) (row .row-in .ensures) (head .head-answer .ensures) (row .before .if1 .left) (tail .tail-by .ensures) (c .before .if2 .left) (c .verdict-by .ensures)
 
 returns-3 : tie.Need-returns-3
 returns-3 c = c .read-tested .ensures

@@ -3,7 +3,7 @@ use buffers::behind;
 use buffers::front;
 use day_report::OUT;
 use day_report::line;
-use profile_rules::RECORD_SIZE;
+use profile_form_rules::RECORD_SIZE;
 
 // Returns a 16-bit word, the low byte first.
 fn word(low: u8, high: u8) -> u64 {

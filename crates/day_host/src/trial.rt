@@ -2,8 +2,8 @@
 use crate::records;
 use day_report::checks;
 use message_rules::answer;
+use profile_form_rules::RECORD_SIZE;
 use profile_rules::Loaded;
-use profile_rules::RECORD_SIZE;
 use settings_rules::Settings;
 
 // Room for three records: brightness, contrast and input.

@@ -2,6 +2,7 @@
 // They are thin over the proved functions, and refuse like them.
 pub mod calls;
 pub mod capability;
+pub mod profiles;
 pub mod reply;
 pub mod request;
 pub mod transfers;

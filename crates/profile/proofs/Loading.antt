@@ -17,9 +17,9 @@ use Rattle.settings_rules.specs.declared.Settings.{Settings}
 use Rattle.records.specs.Numbers.{wordAt}
 use Rattle.records.proofs.Numbers.{number-dropped}
 use Rattle.records.proofs.Records.{stands-whole}
-use Rattle.profile_rules.specs.Records.{recordLength, valueKind, recordSize, codeIn, valueIn, beginsWithRecord}
+use Rattle.profile_form_rules.specs.Records.{recordLength, valueKind, recordSize, codeIn, valueIn, beginsWithRecord}
 use Rattle.profile_rules.specs.Profile.{codesFrom, profileCodes, recordAnswer, answerTo, judge, judgeProfile, stored, loadAs, loadProfile}
-use Rattle.profile_rules.specs.declared.Judged.{Judged}
+use Rattle.profile_form_rules.specs.declared.Judged.{Judged}
 use Rattle.profile_rules.specs.declared.Loaded.{Loaded}
 use Rattle.profile_rules.proofs.Records.{accepted-fits}
 use Rattle.profile_rules.proofs.Rising.{Found}

@@ -12,7 +12,7 @@ use Rattle.records.specs.Records.{headOf}
 use Rattle.message_rules.specs.Answer.{done, wrongSize}
 use Rattle.codes.specs.Codes.{allCodes, member, countOf}
 use Rattle.settings_rules.specs.declared.Settings.{Settings}
-use Rattle.profile_rules.specs.Records.{valueRecord, valueKind, recordLength, recordSize}
+use Rattle.profile_form_rules.specs.Records.{valueRecord, valueKind, recordLength, recordSize}
 use Rattle.profile_rules.specs.Profile.{codesFrom, profileCodes, recordsOf, profileOf, writeProfile}
 use Rattle.profile_rules.proofs.Records.{records-length}
 use Rattle.profile_rules.proofs.Rising.{Found, set-count}

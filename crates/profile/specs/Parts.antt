@@ -5,8 +5,8 @@ use lib.ListN.{getD, drop}
 use lib.Bits.{bitAnd, bitOr, bitXor}
 use Rattle.settings_rules.specs.Values.{withValue}
 use Rattle.settings_rules.specs.declared.Settings.{Settings}
-use Rattle.profile_rules.specs.declared.Judged.{Judged}
-use Rattle.profile_rules.specs.Records.{recordSize, codeIn, valueIn}
+use Rattle.profile_form_rules.specs.declared.Judged.{Judged}
+use Rattle.profile_form_rules.specs.Records.{recordSize, codeIn, valueIn}
 
 -- word i of the set of those codes that are in the sets d, r and w and not in m: the bits of m are set, and turned over after that
 unfoldable pub profileWord : (d r w m : List ℕ) → ℕ → ℕ

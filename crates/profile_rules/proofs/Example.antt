@@ -21,7 +21,7 @@ use Rattle.records.specs.Numbers.{littleEndian}
 use Rattle.records.specs.Records.{beginsWith}
 use Rattle.profile_rules.specs.Profile.{inProfile, profileCode, profileCodes, rising, recordsOf, profileOf, recordAnswer, answerTo, judge, stored, loadAs, loadProfile}
 use Rattle.profile_rules.specs.Statements.{code10, only10, bytes10, Profile10}
-use Rattle.profile_rules.specs.declared.Judged.{Judged}
+use Rattle.profile_form_rules.specs.declared.Judged.{Judged}
 use Rattle.profile_rules.specs.declared.Loaded.{Loaded}
 use Rattle.profile_rules.proofs.Rising.{rising-ext}
 

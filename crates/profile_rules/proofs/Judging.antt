@@ -11,10 +11,11 @@ use Rattle.message_rules.specs.Answer.{done, brokenRecord}
 use Rattle.settings_rules.specs.Settings.{exceedsMaximum}
 use Rattle.settings_rules.specs.Entries.{entryOf}
 use Rattle.settings_rules.specs.declared.Settings.{Settings}
-use Rattle.profile_rules.specs.Records.{valueRecord, recordSize}
+use Rattle.profile_form_rules.specs.Records.{valueRecord, recordSize}
 use Rattle.profile_rules.specs.Profile.{recordsOf, recordAnswer, answerTo, judge}
 use Rattle.profile_rules.specs.Statements.{Alike}
-use Rattle.profile_rules.proofs.Records.{cut-is-none, record-accepted, Fits, accepted-fits, whole}
+use Rattle.profile_form_rules.proofs.Records.{cut-is-none, whole}
+use Rattle.profile_rules.proofs.Records.{record-accepted, Fits, accepted-fits}
 
 pub answer-alike : (s t : Settings) (c : ℕ) (bytes : List ℕ) → Alike (entryOf s c) (entryOf t c) → answerTo s c bytes ≡ answerTo t c bytes
 unfolding answerTo

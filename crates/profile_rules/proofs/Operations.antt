@@ -13,9 +13,10 @@ use Rattle.settings_rules.specs.Operations.{SameTiming}
 use Rattle.settings_rules.specs.Values.{withValue, entryValue}
 use Rattle.settings_rules.specs.declared.Settings.{Settings}
 use Rattle.settings_rules.proofs.Values.{value-sized}
-use Rattle.profile_rules.specs.Records.{valueIn}
+use Rattle.profile_form_rules.specs.Records.{valueIn}
 use Rattle.profile_rules.specs.Profile.{profileCode, profileCodes, recordsOf, profileOf, writeProfile, judgeProfile, stored, loadAs, loadProfile}
-use Rattle.profile_rules.specs.Operations.{InProfile, recordThen, savedRecords, WriteNumbers, Judges, LoadNumbers}
+use Rattle.profile_form_rules.specs.Statements.{recordThen}
+use Rattle.profile_rules.specs.Operations.{InProfile, savedRecords, WriteNumbers, Judges, LoadNumbers}
 use Rattle.profile_rules.proofs.Records.{records-length}
 use Rattle.profile_rules.proofs.Rising.{RisingFrom, none, more, rising-rises}
 use Rattle.profile_rules.proofs.Storing.{value-here, value-away, stored-below}

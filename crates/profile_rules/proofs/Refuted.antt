@@ -14,7 +14,8 @@ use Rattle.settings_rules.specs.declared.Declaration.{Declaration}
 use Rattle.settings_rules.proofs.Theorems.{declare-accepts, declares-one, starts-with-none, empty-is-sound, declare-keeps-sound}
 use Rattle.profile_rules.specs.Profile.{inProfile, profileCode, profileCodes, rising, loadProfile}
 use Rattle.profile_rules.specs.Statements.{code10, only10}
-use Rattle.profile_rules.specs.Operations.{CodesFrom, Judges, end, code, missing, LoadRule, LoadNumbers, recordThen}
+use Rattle.profile_form_rules.specs.Statements.{recordThen}
+use Rattle.profile_rules.specs.Operations.{CodesFrom, Judges, end, code, missing, LoadRule, LoadNumbers}
 use Rattle.profile_rules.proofs.Rising.{rising-ext}
 use Rattle.profile_rules.proofs.Example.{codes-10}
 use Rattle.profile_rules.proofs.Listed.{codes-as-written}

@@ -11,35 +11,14 @@ use Rattle.settings_rules.specs.Settings.{exceedsMaximum}
 use Rattle.settings_rules.specs.Entries.{entryOf}
 use Rattle.settings_rules.specs.declared.Settings.{Settings}
 use Rattle.settings_rules.proofs.Answers.{both, at-most, not-exceeding}
-use Rattle.records.specs.Records.{beginsWith}
-use Rattle.profile_rules.specs.Records.{codeIn, beginsWithRecord}
+use Rattle.profile_form_rules.specs.Records.{codeIn, beginsWithRecord}
 use Rattle.profile_rules.specs.Profile.{recordAnswer, answerTo, judge}
-use Rattle.profile_rules.specs.Operations.{end, recordThen, Judges, JudgesOnce}
+use Rattle.profile_form_rules.specs.Statements.{recordThen}
+use Rattle.profile_rules.specs.Operations.{end, Judges, JudgesOnce}
 use Rattle.profile_rules.specs.Operations as says
-use Rattle.profile_rules.specs.declared.Judged.{Judged}
-use Rattle.profile_rules.proofs.Records.{Whole, whole, seven}
+use Rattle.profile_form_rules.specs.declared.Judged.{Judged}
+use Rattle.profile_form_rules.proofs.Records.{begun, begins-with, begins-none}
 use Rattle.profile_rules.proofs.Judging.{judge-next, judge-stops}
-
--- bytes that begin with a record, and those that do not
-begun : (bytes : List ℕ) → beginsWithRecord bytes ≡ true → bytes ≡ recordThen (codeIn bytes) (getD bytes 5 0) (getD bytes 6 0) (drop 7 bytes)
-begun bytes e =
-    let w : Whole bytes = whole bytes e in
-    let e0 : getD bytes 0 0 ≡ 5 = omega (arith, w .len) in
-    let e1 : getD bytes 1 0 ≡ 0 = omega (arith, w .len) in
-    let e2 : getD bytes 2 0 ≡ 1 = omega (arith, w .kind) in
-    let e3 : getD bytes 3 0 ≡ 0 = omega (arith, w .kind) in
-    cc (seven bytes (w .size))
-
-begins-with : (b low high : ℕ) (rest : List ℕ) → beginsWithRecord (recordThen b low high rest) ≡ true
-unfolding beginsWith
-begins-with b low high rest = rw (le-leb 7 (length (recordThen b low high rest)) (omega arith))
-
-begins-none : (bytes : List ℕ) → ((b low high : ℕ) (rest : List ℕ) → bytes ≡ recordThen b low high rest → ⊥) → beginsWithRecord bytes ≡ false
-begins-none bytes n = go (beginsWithRecord bytes) refl
-  where
-    go : (t : Bool) → beginsWithRecord bytes ≡ t → t ≡ false
-    go false e = refl
-    go true e = absurd (n (codeIn bytes) (getD bytes 5 0) (getD bytes 6 0) (drop 7 bytes) (begun bytes e))
 
 module _ (s : Settings) (c : ℕ) where
   answer-good : (low high : ℕ) (rest : List ℕ) → (entryOf s c .continuous ≡ true → low + high * 256 ≤ entryOf s c .maximum)

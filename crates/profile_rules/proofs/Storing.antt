@@ -17,10 +17,10 @@ use Rattle.settings_rules.specs.Values.{withValue, entryValue}
 use Rattle.settings_rules.specs.declared.Settings.{Settings}
 use Rattle.settings_rules.proofs.Answers.{at-most}
 use Rattle.settings_rules.proofs.Values.{value-stored, value-sized, value-sound}
-use Rattle.profile_rules.specs.Records.{valueRecord, recordSize, valueIn}
+use Rattle.profile_form_rules.specs.Records.{valueRecord, recordSize, valueIn}
 use Rattle.profile_rules.specs.Profile.{recordsOf, judge, stored}
 use Rattle.profile_rules.specs.Statements.{Alike}
-use Rattle.profile_rules.proofs.Records.{whole, record-read}
+use Rattle.profile_form_rules.proofs.Records.{whole, record-read}
 use Rattle.records.proofs.Numbers.{low-high}
 use Rattle.profile_rules.proofs.Judging.{judge-alike, judge-step, judged-length}
 use Rattle.profile_rules.proofs.Rising.{RisingFrom, none, more, has}

@@ -15,10 +15,10 @@ use Rattle.settings_rules.specs.Entries.{entryOf, Sound}
 use Rattle.settings_rules.specs.Values.{entryValue}
 use Rattle.settings_rules.specs.declared.Settings.{Settings}
 use Rattle.settings_rules.proofs.Answers.{not-exceeding}
-use Rattle.profile_rules.specs.Records.{valueRecord, recordSize}
+use Rattle.profile_form_rules.specs.Records.{valueRecord, recordSize}
 use Rattle.profile_rules.specs.Profile.{inProfile, profileCode, profileCodes, recordsOf, profileOf, judge, judgeProfile, stored, loadAs, loadProfile}
 use Rattle.profile_rules.specs.Statements.{OneRecordEach, Alike, WrittenLoads, WrittenComesBack, LoadedWrites, LoadSetsBoth, RefusedLoadKeeps, ExtraBytesRefused, ShortProfileRefused, LoadKeepsSound}
-use Rattle.profile_rules.specs.declared.Judged.{Judged}
+use Rattle.profile_form_rules.specs.declared.Judged.{Judged}
 use Rattle.profile_rules.proofs.Records.{records-length}
 use Rattle.profile_rules.proofs.Rising.{rising-ext, rising-rises, has-rising}
 use Rattle.profile_rules.proofs.Judging.{judge-alike, judge-records, judge-cut}

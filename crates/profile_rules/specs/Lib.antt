@@ -1,4 +1,3 @@
-pub mod Records
 pub mod Profile
 pub mod Statements
 pub mod Operations

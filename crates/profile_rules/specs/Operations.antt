@@ -10,6 +10,7 @@ use Rattle.settings_rules.specs.Entries.{Entry, entryOf, Sized}
 use Rattle.settings_rules.specs.Operations.{SameTiming}
 use Rattle.settings_rules.specs.Values.{entryValue}
 use Rattle.settings_rules.specs.declared.Settings.{Settings}
+use Rattle.profile_form_rules.specs.Statements.{recordThen}
 use Rattle.profile_rules.specs.Profile.{profileCodes, Outcome}
 use Rattle.profile_rules.specs.declared.Loaded.{Loaded}
 
@@ -31,13 +32,6 @@ pub data CodesFrom (s : Settings) : (c : ℕ) → List ℕ → Type 0 where
 -- every settings have such codes, and Profile.antt's are they
 abbrev pub CodesAsWritten : Type 0
 CodesAsWritten = (s : Settings) → CodesFrom s 0 (profileCodes s)
-
--- ---- a record
-
--- "length (2 bytes, little-endian, counting what follows it), kind (2 bytes, little-endian), body. Kind 1: code,
--- saved value (2 bytes, little-endian); so length 5": the bytes of a record, and what follows it
-abbrev pub recordThen : (code low high : ℕ) → List ℕ → List ℕ
-recordThen code low high rest = 0x05 ∷ 0x00 ∷ 0x01 ∷ 0x00 ∷ code ∷ low ∷ high ∷ rest
 
 -- ---- writing
 

@@ -11,10 +11,10 @@ use Rattle.settings_rules.specs.Settings.{exceedsMaximum}
 use Rattle.settings_rules.specs.Entries.{Entry, entryOf}
 use Rattle.settings_rules.specs.Values.{withValue}
 use Rattle.settings_rules.specs.declared.Settings.{Settings}
-use Rattle.profile_rules.specs.Records.{valueRecord, recordSize, codeIn, valueIn, beginsWithRecord}
+use Rattle.profile_form_rules.specs.Records.{valueRecord, recordSize, codeIn, valueIn, beginsWithRecord}
 use Rattle.profile_rules.specs.declared.Written.{Written}
 use Rattle.profile_rules.specs.declared.Loaded.{Loaded}
-use Rattle.profile_rules.specs.declared.Judged.{Judged}
+use Rattle.profile_form_rules.specs.declared.Judged.{Judged}
 
 -- ---- the codes of a profile
 

@@ -13,7 +13,7 @@ use Rattle.settings_rules.specs.Values.{entryValue}
 use Rattle.settings_rules.specs.declared.Settings.{Settings}
 use Rattle.settings_rules.specs.declared.Declaration.{Declaration}
 use Rattle.settings_rules.specs.declared.Timing.{Timing}
-use Rattle.profile_rules.specs.Records.{recordSize}
+use Rattle.profile_form_rules.specs.Records.{recordSize}
 use Rattle.profile_rules.specs.Profile.{profileCode, profileCodes, profileOf, judgeProfile, loadProfile}
 
 -- ---- the profile

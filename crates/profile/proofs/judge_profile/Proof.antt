@@ -6,7 +6,7 @@ use native.Mathlib.Omega.{arith}
 use lib.ListN.{length, drop}
 use borrow.Author.Needs.{needs}
 use Rattle.codes.specs.Codes.{allCodes, member}
-use Rattle.profile_rules.specs.Records.{recordSize}
+use Rattle.profile_form_rules.specs.Records.{recordSize}
 use Rattle.profile_rules.specs.Profile.{answerTo}
 use Rattle.profile_rules.proofs.Rising.{Found, next-found, next-nothing}
 use Rattle.profile.specs.Parts.{judgedAt}

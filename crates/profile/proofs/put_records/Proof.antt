@@ -7,7 +7,7 @@ use native.Mathlib.Omega.{arith}
 use lib.ListN.{length}
 use borrow.Author.Needs.{needs}
 use Rattle.codes.specs.Codes.{allCodes, member}
-use Rattle.profile_rules.specs.Records.{recordSize}
+use Rattle.profile_form_rules.specs.Records.{recordSize}
 use Rattle.profile_rules.specs.Profile.{codesFrom, recordsOf}
 use Rattle.profile_rules.proofs.Rising.{Found, next-found, next-nothing}
 use Rattle.buffers.specs.Buffers.{put}

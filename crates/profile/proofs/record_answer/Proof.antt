@@ -5,7 +5,7 @@ use mathlib.Core.Bool.{true, false}
 use borrow.Author.Needs.{needs}
 use lib.ListN.{getD, drop}
 use Rattle.records.specs.Numbers.{wordAt}
-use Rattle.profile_rules.specs.Records.{beginsWithRecord}
+use Rattle.profile_form_rules.specs.Records.{beginsWithRecord}
 use Rattle.settings_rules.specs.Settings.{exceedsMaximum}
 use Rattle.profile.proofs.Loading.{answer-broken, answer-code, answer-value}
 use Rattle.profile.proofs.record_answer.Statement.{statement}

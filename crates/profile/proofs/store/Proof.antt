@@ -6,7 +6,7 @@ use native.Mathlib.Omega.{arith}
 use lib.ListN.{length, drop}
 use borrow.Author.Needs.{needs}
 use Rattle.settings_rules.specs.Values.{withValue}
-use Rattle.profile_rules.specs.Records.{recordSize}
+use Rattle.profile_form_rules.specs.Records.{recordSize}
 use Rattle.profile.specs.Parts.{storedRecords}
 use Rattle.profile.proofs.Loading.{store-starts, store-turn, store-none}
 use Rattle.profile.proofs.store.Statement.{statement}

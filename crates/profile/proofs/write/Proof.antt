@@ -6,7 +6,7 @@ use native.Mathlib.Omega.{arith}
 use lib.ListN.{length}
 use borrow.Author.Needs.{needs}
 use Rattle.codes.specs.Codes.{member}
-use Rattle.profile_rules.specs.Records.{recordSize}
+use Rattle.profile_form_rules.specs.Records.{recordSize}
 use Rattle.profile_rules.specs.Profile.{codesFrom, profileCodes, recordsOf, profileOf}
 use Rattle.buffers.specs.Buffers.{put}
 use Rattle.profile.proofs.Sets.{set-codes}

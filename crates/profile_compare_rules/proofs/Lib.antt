@@ -1,0 +1,4 @@
+pub mod Values
+pub mod Differences
+pub mod Theorems
+pub mod Refuted

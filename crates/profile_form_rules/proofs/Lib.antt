@@ -1,0 +1,5 @@
+pub mod Records
+pub mod Profiles
+pub mod Judging
+pub mod Theorems
+pub mod Refuted

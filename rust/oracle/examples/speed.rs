@@ -8,6 +8,7 @@ use oracle::capabilities;
 use oracle::display::{Display, Timing};
 use oracle::message::*;
 use oracle::profile;
+use oracle::profile_comparison;
 use oracle::settings::{Declaration, Settings};
 use oracle::transfer::{State, Transfer};
 use oracle::{Text, SETTING_LIMIT, TABLE_CODE, TABLE_LIMIT};
@@ -225,6 +226,18 @@ fn call_lists() {
     }
 }
 
+fn compared_profiles() {
+    let profile = |high| (0..=255).flat_map(|code| [5, 0, 1, 0, code, code, high]).collect::<Vec<u8>>();
+    let (first, other) = (profile(0), profile(1));
+    let (mut codes, mut values, mut others) = ([0; 256], [0; 256], [0; 256]);
+    for (what, second) in [("the same", &first), ("all differ", &other)] {
+        time(&format!("two profiles of 256 codes, {what}"), 2000, || {
+            let (first, second) = (black_box(&first), black_box(second));
+            let _ = black_box(profile_comparison::compare(first, second, &mut codes, &mut values, &mut others));
+        });
+    }
+}
+
 fn main() {
     messages();
     capabilities_strings();
@@ -233,4 +246,5 @@ fn main() {
     transfers();
     profiles();
     call_lists();
+    compared_profiles();
 }

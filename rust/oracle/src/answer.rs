@@ -2,7 +2,7 @@
 
 /// 0: done.
 pub const DONE: u8 = 0;
-/// 1: a lent output, buffer or text of a wrong size, or fewer answers than codes.
+/// 1: a lent output, buffer or text of a wrong size, fewer answers than codes, or too little room for differences.
 pub const SIZE: u8 = 1;
 /// 2: under 3 bytes.
 pub const SHORT: u8 = 2;
@@ -34,7 +34,7 @@ pub const NODE_ROOM: u8 = 14;
 pub const DEPTH: u8 = 15;
 /// 16: transfer already closed.
 pub const CLOSED: u8 = 16;
-/// 17: a record broken, of a settings profile or of a call list.
+/// 17: a record broken, of a settings profile or of a call list, or by form a code that does not rise.
 pub const RECORD: u8 = 17;
 /// 18: declaration, fragment size or budget not allowed.
 pub const NOT_ALLOWED: u8 = 18;

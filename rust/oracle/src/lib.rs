@@ -19,6 +19,8 @@ pub mod display;
 pub mod line;
 pub mod message;
 pub mod profile;
+pub mod profile_comparison;
+pub mod profile_comparison_by_definition;
 pub mod set_all_by_definition;
 pub mod settings;
 pub mod transfer;

@@ -1,5 +1,5 @@
 /* What a C program does with Paneknoll: build a request, read a reply, read a capabilities string, run a
- * transfer, check a call list.
+ * transfer, check a call list, compare two profiles.
  *
  *     cc -Iinclude c/example.c target/staticlib/libddcci.a -o example && ./example
  */
@@ -112,6 +112,46 @@ static void call_lists(void) {
     call_list(list, sizeof list);
 }
 
+/* A value of a compared profile, or "-" where the profile does not have the code. */
+static void show_value(uint32_t value) {
+    if (value == DDCCI_ABSENT) {
+        printf(" -");
+    } else {
+        printf(" %lu", (unsigned long)value);
+    }
+}
+
+/* What differs between two profiles: a line for each code, with both values. */
+static void compare(const uint8_t *first, size_t first_length, const uint8_t *second, size_t second_length) {
+    static uint8_t codes[DDCCI_MOST_DIFFERENCES];
+    static uint32_t first_values[DDCCI_MOST_DIFFERENCES], second_values[DDCCI_MOST_DIFFERENCES];
+    ddcci_compared compared = ddcci_compare_profiles(first, first_length, second, second_length, codes,
+                                                     DDCCI_MOST_DIFFERENCES, first_values, DDCCI_MOST_DIFFERENCES,
+                                                     second_values, DDCCI_MOST_DIFFERENCES);
+    if (compared.answer != DDCCI_ANSWER_DONE) {
+        printf("profile %u: refused %u at %zu, %s\n", compared.profile, compared.answer, compared.position,
+               ddcci_answer_text(compared.answer));
+        return;
+    }
+    printf("profiles: %zu differences\n", compared.differences);
+    for (size_t i = 0; i < compared.differences; i++) {
+        printf("  %02X", codes[i]);
+        show_value(first_values[i]);
+        show_value(second_values[i]);
+        printf("\n");
+    }
+}
+
+/* Brightness 50 and contrast 80; brightness 70 and input 15; then brightness twice. */
+static void profiles(void) {
+    const uint8_t first[] = {5, 0, 1, 0, 0x10, 50, 0, 5, 0, 1, 0, 0x12, 80, 0};
+    uint8_t second[] = {5, 0, 1, 0, 0x10, 70, 0, 5, 0, 1, 0, 0x60, 15, 0};
+    compare(first, sizeof first, second, sizeof second);
+    compare(first, sizeof first, first, sizeof first);
+    second[11] = 0x10;
+    compare(first, sizeof first, second, sizeof second);
+}
+
 int main(void) {
     messages();
     capabilities("(vcp(10 14(05 08)))");
@@ -119,5 +159,6 @@ int main(void) {
     capabilities("(a(b)(c))");
     transfer();
     call_lists();
+    profiles();
     return 0;
 }

@@ -1,6 +1,7 @@
 /* Both headers in one file that is C89, C17 and C++ alike: the meaning of every answer number, the version,
  * what an accepted message asked for, that a message with a byte behind it is refused, many settings in one
- * call, and call lists of the greatest length and around it.
+ * call, call lists of the greatest length and around it, and two profiles compared with room around what is
+ * needed.
  *
  *     cc -Iinclude c/headers.c target/staticlib/libddcci.a target/staticlib/libddcci_display.a -o headers && ./headers
  */
@@ -127,6 +128,51 @@ static void show_call_lists(void) {
     show_checked(list, 12 * DDCCI_MOST_ENTRIES);
 }
 
+/* Writes all that a comparison of so many codes with so many others answers, and the entries of the first
+ * difference, of the last that there can be, and behind it. */
+static void show_compared(size_t first_count, size_t second_count, size_t room, size_t second_room) {
+    static uint8_t first[7 * (DDCCI_MOST_DIFFERENCES + 1)], second[7 * (DDCCI_MOST_DIFFERENCES + 1)];
+    static uint8_t codes[DDCCI_MOST_DIFFERENCES + 1];
+    static uint32_t first_values[DDCCI_MOST_DIFFERENCES + 1], second_values[DDCCI_MOST_DIFFERENCES + 1];
+    static const size_t places[] = {0, DDCCI_MOST_DIFFERENCES - 1, DDCCI_MOST_DIFFERENCES};
+    ddcci_compared compared;
+    size_t i;
+    for (i = 0; i <= DDCCI_MOST_DIFFERENCES; i++) {
+        first[7 * i] = second[7 * i] = 5;
+        first[7 * i + 2] = second[7 * i + 2] = 1;
+        first[7 * i + 4] = second[7 * i + 4] = (uint8_t)i; /* the code behind the last one is 0 again */
+        first[7 * i + 5] = 50;
+        second[7 * i + 5] = 70;
+        codes[i] = 77;
+        first_values[i] = second_values[i] = 77;
+    }
+    compared = ddcci_compare_profiles(first, 7 * first_count, second, 7 * second_count, codes, room, first_values,
+                                      room, second_values, second_room);
+    printf("%lu and %lu codes, ", (unsigned long)first_count, (unsigned long)second_count);
+    printf("room %lu, %lu: ", (unsigned long)room, (unsigned long)second_room);
+    printf("answer %u, profile %u, ", compared.answer, compared.profile);
+    printf("%lu differences, ", (unsigned long)compared.differences);
+    printf("position %lu;", (unsigned long)compared.position);
+    for (i = 0; i < 3; i++) {
+        size_t at = places[i];
+        printf(" %02X %lu %lu;", codes[at], (unsigned long)first_values[at], (unsigned long)second_values[at]);
+    }
+    printf("\n");
+}
+
+static void show_profiles(void) {
+    printf("absent: %lu\n", (unsigned long)DDCCI_ABSENT);
+    show_compared(256, 256, 256, 256);
+    show_compared(256, 0, 257, 256);
+    show_compared(0, 256, 256, 257);
+    show_compared(256, 256, 256, 255);
+    show_compared(255, 256, 255, 256);
+    show_compared(1, 0, 1, 1);
+    show_compared(0, 0, 0, 0);
+    show_compared(257, 257, 0, 0);
+    show_compared(256, 257, 0, 0);
+}
+
 int main(void) {
     static const uint8_t null_message[] = DDCCI_DISPLAY_NULL_MESSAGE;
     int answer;
@@ -135,6 +181,7 @@ int main(void) {
     show_messages();
     show_cut();
     show_call_lists();
+    show_profiles();
     printf("null message: answer %u\n", ddcci_read_reply(null_message, sizeof null_message).answer);
     return 0;
 }

@@ -3,9 +3,10 @@
  * Link target/staticlib/libddcci.a, which is built for x86-64 Linux; it needs nothing else.
  *
  * Every function is proved, for all inputs, to be safe, to end and to answer as the papers say: document
- * 01, and document 02 for call lists. None allocates. Each answer is a number of `enum ddcci_answer`, and
- * ddcci_answer_text says what it means (ddcci_common.h). A refusal writes nothing. The slices of one call
- * must not overlap: a Table write that was built from data standing in its own output had a wrong checksum. */
+ * 01, and document 02 for call lists and compared profiles. None allocates. Each answer is a number of `enum
+ * ddcci_answer`, and ddcci_answer_text says what it means (ddcci_common.h). A refusal writes nothing. The
+ * slices of one call must not overlap: a Table write that was built from data standing in its own output had
+ * a wrong checksum. */
 #ifndef PANEKNOLL_DDCCI_H
 #define PANEKNOLL_DDCCI_H
 
@@ -32,6 +33,11 @@ extern "C" {
 /* The most bytes and the most entries of a call list: 85 records are 1,020 bytes. */
 #define DDCCI_LONGEST_CALL_LIST 1024
 #define DDCCI_MOST_ENTRIES 85
+
+/* The most differences of two profiles, one for each code, and what stands for the value of a code that a
+ * profile does not have: no value is 65,536. */
+#define DDCCI_MOST_DIFFERENCES 256
+#define DDCCI_ABSENT 65536u
 
 /* What a builder answers: an answer number, and the length of the message or 0. */
 typedef struct {
@@ -109,6 +115,16 @@ typedef struct {
     uint32_t household;
 } ddcci_entry;
 
+/* What the comparison of two profiles answers: the number of differences; or no differences, with the profile
+ * that is refused, 1 the first or 2 the second, and the position where the refused record starts in it. What
+ * it does not have is 0. */
+typedef struct {
+    uint8_t answer;
+    uint8_t profile;
+    size_t differences;
+    size_t position;
+} ddcci_compared;
+
 DDCCI_ASSERT_SIZE(ddcci_built, 16);
 DDCCI_ASSERT_SIZE(ddcci_request_read, 24);
 DDCCI_ASSERT_SIZE(ddcci_reply_read, 32);
@@ -117,6 +133,7 @@ DDCCI_ASSERT_SIZE(ddcci_transfer, 16);
 DDCCI_ASSERT_SIZE(ddcci_call_list, 24);
 DDCCI_ASSERT_SIZE(ddcci_household, 24);
 DDCCI_ASSERT_SIZE(ddcci_entry, 8);
+DDCCI_ASSERT_SIZE(ddcci_compared, 24);
 
 /* The state and the text of a transfer. A refused begin of an unknown text has text 2, which names none. */
 #define DDCCI_STATE(transfer) ((transfer).phase % 4)
@@ -196,6 +213,20 @@ ddcci_household ddcci_find_household(const uint8_t *list, size_t list_length, ui
 /* Returns the entry with this number, counted from 0, of an accepted list; past its entries both fields
  * are 0. Of a list that was not accepted it is what stands there: check first. */
 ddcci_entry ddcci_call_list_entry(const uint8_t *list, size_t list_length, size_t number);
+
+/* Compares two profiles. A record has 7 bytes: its length 5 and its kind 1 in 2 bytes each, the code, and the
+ * value in 2 bytes, the lowest byte first. A profile is judged by its form alone, not against a display: whole
+ * records with rising codes, of which F4 may be one; the empty profile is accepted. Answers 17 with profile 1
+ * for the first record of the first profile that is not so, then 17 with profile 2 for the second profile,
+ * then 1 for less room than differences. Else it answers 0 with the number of differences, and writes one
+ * entry a difference into each of the three buffers: the codes that are in one profile only or whose value
+ * differs, rising, with the value in the first and in the second profile or DDCCI_ABSENT. Entries past them
+ * stay. No difference means that the profiles have the same bytes. The room is the length of the shortest
+ * buffer; DDCCI_MOST_DIFFERENCES is always enough. No buffer may overlap another slice. */
+ddcci_compared ddcci_compare_profiles(const uint8_t *first, size_t first_length, const uint8_t *second,
+                                      size_t second_length, uint8_t *codes, size_t codes_length,
+                                      uint32_t *first_values, size_t first_values_length,
+                                      uint32_t *second_values, size_t second_values_length);
 
 #ifdef __cplusplus
 }

@@ -10,10 +10,10 @@
 #include <stdint.h>
 
 /* The version of the headers and of the archives that they go with. */
-#define DDCCI_VERSION "0.5.1"
+#define DDCCI_VERSION "0.6.0"
 #define DDCCI_VERSION_MAJOR 0
-#define DDCCI_VERSION_MINOR 5
-#define DDCCI_VERSION_PATCH 1
+#define DDCCI_VERSION_MINOR 6
+#define DDCCI_VERSION_PATCH 0
 
 /* The bytes of the longest message of either direction, and the least output of a builder. */
 #define DDCCI_LONGEST_MESSAGE 38
@@ -42,7 +42,9 @@ enum ddcci_command {
 };
 
 /* The answer numbers of the papers' table. ddcci_answer_text says what each one means. Of many settings in
- * one call, 1 is fewer answers than codes, and 7 more than 64 settings, or unequally many codes and values. */
+ * one call, 1 is fewer answers than codes, and 7 more than 64 settings, or unequally many codes and values.
+ * Of two profiles that are compared, 1 is fewer entries than differences, and 17 a record that is broken or
+ * whose code is not above the one before it. */
 enum ddcci_answer {
     DDCCI_ANSWER_DONE = 0,
     DDCCI_ANSWER_WRONG_SIZE = 1,
@@ -81,7 +83,8 @@ DDCCI_INLINE const char *ddcci_answer_text(int answer) {
     case DDCCI_ANSWER_DONE:
         return "done";
     case DDCCI_ANSWER_WRONG_SIZE:
-        return "a lent buffer has the wrong size (an output needs 38 bytes, the answers of settings one each)";
+        return "a lent buffer has the wrong size (an output needs 38 bytes, a setting an answer, "
+               "a difference an entry)";
     case DDCCI_ANSWER_TOO_SHORT:
         return "the message is under 3 bytes";
     case DDCCI_ANSWER_WRONG_FIRST_BYTE:
@@ -113,7 +116,7 @@ DDCCI_INLINE const char *ddcci_answer_text(int answer) {
     case DDCCI_ANSWER_TRANSFER_CLOSED:
         return "the transfer is closed: begin another";
     case DDCCI_ANSWER_BROKEN_RECORD:
-        return "the profile or call list is broken here: do not use it";
+        return "the profile or call list is broken here, or the profile's codes do not rise: do not use it";
     case DDCCI_ANSWER_NOT_DECLARABLE:
         return "the declaration, timing, fragment size or budget is not allowed";
     case DDCCI_ANSWER_REPEATED_TOKEN:

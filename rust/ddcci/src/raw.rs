@@ -164,6 +164,31 @@ extern "C" {
 }
 
 #[repr(C)]
+#[derive(Clone, Copy)]
+pub struct Compared {
+    pub answer: u8,
+    /// The profile that is refused: 1 the first, 2 the second; else 0.
+    pub profile: u8,
+    pub differences: usize,
+    pub position: usize,
+}
+
+extern "C" {
+    pub fn ddcci_compare_profiles(
+        first: *const u8,
+        first_length: usize,
+        second: *const u8,
+        second_length: usize,
+        codes: *mut u8,
+        codes_length: usize,
+        first_values: *mut u32,
+        first_values_length: usize,
+        second_values: *mut u32,
+        second_values_length: usize,
+    ) -> Compared;
+}
+
+#[repr(C)]
 #[derive(Clone, Copy, PartialEq, Eq)]
 pub struct Settings {
     pub declared: [u64; 4],
@@ -281,6 +306,7 @@ const _: () = {
     has_size::<CallList>(24);
     has_size::<Household>(24);
     has_size::<Entry>(8);
+    has_size::<Compared>(24);
     has_size::<Timing>(6);
     has_size::<Settings>(1704);
     has_size::<TextState>(6);

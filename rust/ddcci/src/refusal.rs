@@ -32,8 +32,10 @@ macro_rules! refusals {
 }
 
 refusals! {
-    /// A lent buffer has the wrong size; of many settings, there are fewer answers than codes.
-    WrongSize = 1, "a lent buffer has the wrong size (an output needs 38 bytes, the answers of settings one each)";
+    /// A lent buffer has the wrong size; of many settings, there are fewer answers than codes; of two profiles, in C,
+    /// fewer entries than differences.
+    WrongSize = 1,
+        "a lent buffer has the wrong size (an output needs 38 bytes, a setting an answer, a difference an entry)";
     /// A message is under 3 bytes.
     TooShort = 2, "the message is under 3 bytes";
     /// The first byte of a message is wrong.
@@ -64,8 +66,9 @@ refusals! {
     TooDeep = 15, "groups nest deeper than 8";
     /// The transfer is closed.
     TransferClosed = 16, "the transfer is closed: begin another";
-    /// A record of a profile or of a call list is broken, or of a profile missing or too many.
-    BrokenRecord = 17, "the profile or call list is broken here: do not use it";
+    /// A record of a profile or of a call list is broken, or of a profile missing, too many or, where two are compared,
+    /// not rising.
+    BrokenRecord = 17, "the profile or call list is broken here, or the profile's codes do not rise: do not use it";
     /// A declaration, timing, fragment size or budget is not allowed.
     NotDeclarable = 18, "the declaration, timing, fragment size or budget is not allowed";
     /// A token stands twice in a call list.

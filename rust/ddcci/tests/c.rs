@@ -19,6 +19,12 @@ in 5 exchanges
 call list: tokens 102 101; household 2031 is in entry 1
 call list: tokens 102; household 2031 is not called
 call list: refused 20 at 12, a household stands twice in the call list: call nobody by it
+profiles: 3 differences
+  10 50 70
+  12 80 -
+  60 - 15
+profiles: 0 differences
+profile 2: refused 17 at 7, the profile or call list is broken here, or the profile's codes do not rise: do not use it
 ";
 
 const DISPLAY_WRITES: &str = "\
@@ -151,6 +157,16 @@ brightness 70, list 3 bytes
 1025 bytes: answer 11, 0 entries, position 0; household 84: answer 11, 0, 0, 0; last token 0
 0 bytes: answer 0, 0 entries, position 0; household 84: answer 0, 0, 0, 0; last token 0
 1020 bytes: answer 19, 0 entries, position 1008; household 84: answer 19, 0, 0, 1008; last token 0
+absent: 65536
+256 and 256 codes, room 256, 256: answer 0, profile 0, 256 differences, position 0; 00 50 70; FF 50 70; 4D 77 77;
+256 and 0 codes, room 257, 256: answer 0, profile 0, 256 differences, position 0; 00 50 65536; FF 50 65536; 4D 77 77;
+0 and 256 codes, room 256, 257: answer 0, profile 0, 256 differences, position 0; 00 65536 70; FF 65536 70; 4D 77 77;
+256 and 256 codes, room 256, 255: answer 1, profile 0, 0 differences, position 0; 4D 77 77; 4D 77 77; 4D 77 77;
+255 and 256 codes, room 255, 256: answer 1, profile 0, 0 differences, position 0; 4D 77 77; 4D 77 77; 4D 77 77;
+1 and 0 codes, room 1, 1: answer 0, profile 0, 1 differences, position 0; 00 50 65536; 4D 77 77; 4D 77 77;
+0 and 0 codes, room 0, 0: answer 0, profile 0, 0 differences, position 0; 4D 77 77; 4D 77 77; 4D 77 77;
+257 and 257 codes, room 0, 0: answer 17, profile 1, 0 differences, position 1792; 4D 77 77; 4D 77 77; 4D 77 77;
+256 and 257 codes, room 0, 0: answer 17, profile 2, 0 differences, position 1792; 4D 77 77; 4D 77 77; 4D 77 77;
 null message: answer 12
 ";
 

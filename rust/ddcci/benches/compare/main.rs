@@ -8,6 +8,7 @@ mod display;
 mod installed;
 mod measure;
 mod messages;
+mod profiles;
 mod settings;
 mod transfers;
 
@@ -19,6 +20,7 @@ fn main() {
     installed::run();
     transfers::run();
     call_lists::run();
+    profiles::run();
     display::run();
     settings::run();
 }

@@ -6,7 +6,7 @@ abbrev pub done : ℕ
 done = 0
 
 -- lent output under 38 bytes; transfer buffer, table buffer or capabilities string of a wrong size; profile output too short;
--- fewer answers lent than codes to set (document 02, K1)
+-- fewer answers lent than codes to set (document 02, K1); fewer entries lent than differences (K4)
 abbrev pub wrongSize : ℕ
 wrongSize = 1
 
@@ -69,7 +69,7 @@ tooDeep = 15
 abbrev pub transferClosed : ℕ
 transferClosed = 16
 
--- profile broken; record of a call list broken (K9)
+-- profile broken, or its codes not rising where it is judged by its form (K4); record of a call list broken (K9)
 abbrev pub brokenRecord : ℕ
 brokenRecord = 17
 

@@ -3,6 +3,7 @@
 pub const DONE: u8 = 0;
 
 // A lent output has under 38 bytes, or another lent slice has a wrong length: so have fewer answers than codes to set.
+// So have arrays with fewer entries than two profiles have differences.
 pub const WRONG_SIZE: u8 = 1;
 
 // A message has under 3 bytes.
@@ -51,7 +52,7 @@ pub const TOO_DEEP: u8 = 15;
 // The transfer was closed already.
 pub const TRANSFER_CLOSED: u8 = 16;
 
-// The profile is broken, or a record of the call list.
+// The profile is broken, or a record of the call list; by a profile's form alone, its codes do not rise.
 pub const BROKEN_RECORD: u8 = 17;
 
 // The declaration, the fragment size or the budget is not allowed.

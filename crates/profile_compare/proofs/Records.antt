@@ -1,46 +1,52 @@
--- The record at an index, as it is read.
+-- The record at an index, as it is read, and the records left from there on.
 use mathlib.Core.Path.{_≡_, sym, ap, ap₂, _∙_}
-use mathlib.Core.List.{List}
-use Prim.Native.Nat.{ℕ, _+_, _≤_, _<_, min}
+use mathlib.Core.List.{List, [], _∷_}
+use Prim.Native.Nat.{ℕ, suc, _+_, _-_, _*_, _/_, _≤_, _<_}
 use native.Mathlib.Omega.{arith}
-use lib.ListN.{length, getD, drop}
-use lib.Seq.{getD-drop}
-use borrow.Author.Tests.{lt-ltb, le-ltb, eq-eqb, ne-eqb}
-use Rattle.records.specs.Numbers.{wordAt}
-use Rattle.records.proofs.Numbers.{number-dropped}
-use Rattle.profile_form_rules.specs.Records.{valueIn}
+use lib.ListN.{length, getD, drop, length-drop}
+use lib.Seq.{getD-drop, drop-drop}
+use borrow.Author.Tests.{eq-eqb, ne-eqb, lt-ltb, le-ltb}
+use Rattle.profile_form_rules.specs.Records.{recordSize, codeIn, valueIn}
+use Rattle.profile_form_rules.specs.Form.{Setting, settingsIn}
 use Rattle.profile_compare_rules.specs.Compare.{absent}
-use Rattle.profile_compare.specs.Parts.{codeFrom, valueFor, behindOf, nextIn}
-use Rattle.profile_compare.specs.declared.Next.{Next}
+use Rattle.profile_compare.specs.Parts.{nextIn, settingsFrom}
 
 module _ (s : List ℕ) (at : ℕ) where
-  -- its code, and the end
-  pub code-there : (r : ℕ) → at < length s → r ≡ getD s (at + 4) 0 → r ≡ codeFrom s at
-  code-there r l e = rw (lt-ltb at (length s) l) (e ∙ sym (getD-drop at s 4 0))
+  -- its code and its value
+  pub code-there : (r : ℕ) → r ≡ getD s (at + 4) 0 → r ≡ codeIn (drop at s)
+  code-there r e = e ∙ sym (getD-drop at s 4 0)
 
-  pub code-end : length s ≤ at → 256 ≡ codeFrom s at
-  code-end l = rw (le-ltb at (length s) l)
+  pub value-there : (r : ℕ) → r ≡ getD s (at + 5) 0 + getD s (at + 5 + 1) 0 * 256 → r ≡ valueIn (drop at s)
+  value-there r e =
+      let q : at + 5 + 1 ≡ at + 6 = omega arith in
+      e ∙ ap₂ (λ (x y : ℕ). x + y * 256) (sym (getD-drop at s 5 0)) (ap (λ (n : ℕ). getD s n 0) q ∙ sym (getD-drop at s 6 0))
 
-  module _ (r code : ℕ) (e : r ≡ codeFrom s at) where
-    -- its value and the index behind it, where it has the code
-    pub value-there : r ≡ code → (v : ℕ) → v ≡ wordAt s (at + 5) → v ≡ valueFor s at code
-    value-there q v f = rw (eq-eqb (codeFrom s at) code (sym e ∙ q)) (f ∙ sym (number-dropped 2 s at 5))
+  -- a whole record is the first of those left, and behind it are the others
+  pub settings-more : at + recordSize ≤ length s → settingsFrom s at ≡ record { code = codeIn (drop at s); value = valueIn (drop at s) } ∷ settingsFrom s (at + recordSize)
+  unfolding settingsIn
+  settings-more h =
+      let n : length (drop at s) / recordSize ≡ suc (length (drop (at + recordSize) s) / recordSize) = omega (arith, length-drop at s, length-drop (at + recordSize) s) in
+      ap (λ (k : ℕ). settingsIn k (drop at s)) n
+      ∙ ap (λ (t : List ℕ). record { code = codeIn (drop at s); value = valueIn (drop at s) } ∷ settingsIn (length (drop (at + recordSize) s) / recordSize) t) (drop-drop recordSize at s)
 
-    pub value-not : (r ≡ code → ⊥) → absent ≡ valueFor s at code
-    value-not q = rw (ne-eqb (codeFrom s at) code (λ z. q (e ∙ z)))
+  -- bytes that are too few for one have none
+  pub settings-none : length s - at < recordSize → settingsFrom s at ≡ []
+  unfolding settingsIn
+  settings-none h = let n : length (drop at s) / recordSize ≡ 0 = omega (arith, length-drop at s) in ap (λ (k : ℕ). settingsIn k (drop at s)) n
 
-    pub behind-there : r ≡ code → at + 7 ≡ behindOf s at code
-    behind-there q = rw (eq-eqb (codeFrom s at) code (sym e ∙ q))
+-- ---- what comes next in two profiles
 
-    pub behind-not : (r ≡ code → ⊥) → at ≡ behindOf s at code
-    behind-not q = rw (ne-eqb (codeFrom s at) code (λ z. q (e ∙ z)))
+module _ (s : List ℕ) (i : ℕ) (t : List ℕ) (j one other x y : ℕ) (a : one ≡ codeIn (drop i s)) (b : other ≡ codeIn (drop j t)) where
+  -- the same code in both
+  pub next-both : one ≡ other → x ≡ valueIn (drop i s) → y ≡ valueIn (drop j t)
+      → record { code = one; first = x; second = y; i = i + recordSize; j = j + recordSize } ≡ nextIn s i t j
+  next-both e p q = rw (eq-eqb (codeIn (drop i s)) (codeIn (drop j t)) (sym a ∙ e ∙ b)) (cc (a, p, q))
 
--- ---- two of them
+  -- a lower one in the first, or in the second
+  pub next-first : one < other → x ≡ valueIn (drop i s) → record { code = one; first = x; second = absent; i = i + recordSize; j = j } ≡ nextIn s i t j
+  next-first l p =
+      rw (ne-eqb (codeIn (drop i s)) (codeIn (drop j t)) (λ z. omega arith), lt-ltb (codeIn (drop i s)) (codeIn (drop j t)) (omega arith)) (cc (a, p))
 
--- what comes next, at the lower of two codes
-abbrev atCode : (s : List ℕ) (i : ℕ) (t : List ℕ) (j c : ℕ) → Next
-atCode s i t j c = record { code = c; first = valueFor s i c; second = valueFor t j c; i = behindOf s i c; j = behindOf t j c }
-
-pub next-is : (s : List ℕ) (i : ℕ) (t : List ℕ) (j x y c f g k l : ℕ) → x ≡ codeFrom s i → y ≡ codeFrom t j → c ≡ min x y
-    → f ≡ valueFor s i c → g ≡ valueFor t j c → k ≡ behindOf s i c → l ≡ behindOf t j c → record { code = c; first = f; second = g; i = k; j = l } ≡ nextIn s i t j
-next-is s i t j x y c f g k l p q m e n a b = cc (e, n, a, b) ∙ ap (atCode s i t j) (m ∙ ap₂ min p q)
+  pub next-second : (one ≡ other → ⊥) → other ≤ one → y ≡ valueIn (drop j t) → record { code = other; first = absent; second = y; i = i; j = j + recordSize } ≡ nextIn s i t j
+  next-second n l q =
+      rw (ne-eqb (codeIn (drop i s)) (codeIn (drop j t)) (λ z. n (a ∙ z ∙ sym b)), le-ltb (codeIn (drop i s)) (codeIn (drop j t)) (omega arith)) (cc (b, q))

@@ -1,15 +1,15 @@
 -- What the inner functions read and leave.
-use Prim.Native.Nat.{ℕ, _+_, min}
+use Prim.Native.Nat.{ℕ, _+_}
 use mathlib.Core.Path.{_≡_}
 use mathlib.Core.Bool.{cond}
-use mathlib.Core.List.{List}
-use lib.ListN.{length, drop}
+use mathlib.Core.List.{List, map}
+use lib.ListN.{drop}
 use lib.Dec.{ltb, eqb}
-use Rattle.codes.specs.Codes.{allCodes}
+use Rattle.buffers.specs.Buffers.{put}
 use Rattle.message_rules.specs.Answer.{done}
 use Rattle.profile_form_rules.specs.Records.{recordSize, codeIn, valueIn}
-use Rattle.profile_form_rules.specs.Form.{settingsOf, judgeForm}
-use Rattle.profile_compare_rules.specs.Compare.{absent, Difference, differences}
+use Rattle.profile_form_rules.specs.Form.{Setting, settingsOf, judgeForm}
+use Rattle.profile_compare_rules.specs.Compare.{absent, Difference, differences, Room}
 use Rattle.profile_compare_rules.specs.declared.Compared.{Compared}
 use Rattle.profile_compare.specs.declared.Next.{Next}
 
@@ -26,21 +26,31 @@ listOf s t = differences (settingsOf s) (settingsOf t)
 abbrev pub refusal : (answer profile position : ℕ) → Compared
 refusal answer profile position = record { answer = answer; profile = profile; differences = 0; position = record { 0 = position } }
 
--- ---- the record at an index
+-- ---- what comes next in two profiles
 
--- its code, or 256 at the end
-abbrev pub codeFrom : List ℕ → ℕ → ℕ
-codeFrom s at = cond (ltb at (length s)) (codeIn (drop at s)) allCodes
-
--- its value and the index behind it, where it has this code
-abbrev pub valueFor : List ℕ → ℕ → (code : ℕ) → ℕ
-valueFor s at code = cond (eqb (codeFrom s at) code) (valueIn (drop at s)) absent
-
-abbrev pub behindOf : List ℕ → ℕ → (code : ℕ) → ℕ
-behindOf s at code = cond (eqb (codeFrom s at) code) (at + recordSize) at
-
--- what comes next in two profiles
+-- the lower code of the two records, with the values and the indices behind: a record with a higher code waits
 abbrev pub nextIn : (s : List ℕ) (i : ℕ) (t : List ℕ) (j : ℕ) → Next
 nextIn s i t j =
-    let code = min (codeFrom s i) (codeFrom t j) in
-    record { code = code; first = valueFor s i code; second = valueFor t j code; i = behindOf s i code; j = behindOf t j code }
+    let one = codeIn (drop i s) in
+    let other = codeIn (drop j t) in
+    let x = valueIn (drop i s) in
+    let y = valueIn (drop j t) in
+    cond (eqb one other)
+    (record { code = one; first = x; second = y; i = i + recordSize; j = j + recordSize })
+    (cond (ltb one other)
+    (record { code = one; first = x; second = absent; i = i + recordSize; j = j })
+    (record { code = other; first = absent; second = y; i = i; j = j + recordSize }))
+
+-- ---- what is left of a profile
+
+-- the settings from an index on
+abbrev pub settingsFrom : List ℕ → ℕ → List Setting
+settingsFrom s at = settingsOf (drop at s)
+
+-- their codes and values in two arrays from place n on, and absent in the third
+abbrev pub restIn : (n : ℕ) → List Setting → Room → Room
+restIn n es r = record {
+  codes = put (r .codes) n (map (λ (e : Setting). e .code) es);
+  first = put (r .first) n (map (λ (e : Setting). e .value) es);
+  second = put (r .second) n (map (λ (e : Setting). absent) es);
+}

@@ -1,9 +1,8 @@
 // Comparing two settings profiles, proved equal to its definition in profile_compare_rules for all slices.
 //
 // Both profiles are judged first. The codes of accepted ones rise, so one walk goes through both side by side: at each step
-// it takes the lowest code that comes next in either.
+// it takes the lowest code that comes next in either, until one of them has ended.
 use buffers::least;
-use buffers::wide16;
 use message_rules::Position;
 use message_rules::answer::DONE;
 use message_rules::answer::WRONG_SIZE;
@@ -17,22 +16,19 @@ use profile_form::judge;
 use profile_form_rules::CODE_AT;
 use profile_form_rules::RECORD_SIZE;
 use profile_form_rules::VALUE_AT;
-use records::byte_at;
-use records::word_at;
+use records::word;
 ghost use mathlib.Core.Path.{_≡_};
-ghost use Prim.Native.Nat.{_≤_, min};
-ghost use lib.ListN.{length};
+ghost use Prim.Native.Nat.{_+_, _≤_};
+ghost use lib.ListN.{length, drop};
 ghost use lib.Dec.{ltb};
+ghost use Rattle.profile_form_rules.specs.Records.{recordSize, codeIn, valueIn};
 ghost use Rattle.profile_compare_rules.specs.Compare.{lent, roomIn, listedIn, outcome, listDifferences, compareProfiles};
-ghost use Rattle.profile_compare.specs.Parts.{Accepted, codeFrom, valueFor, behindOf, nextIn, listOf, refusal};
+ghost use Rattle.profile_compare.specs.Parts.{Accepted, listOf, nextIn, settingsFrom, restIn, refusal};
 
-// Codes are below this number, and it stands for the code that comes next where none does.
-const ALL_CODES: u16 = 256;
-
-// What comes next in two profiles.
+// What comes next in two profiles that both have a record left.
 struct Next {
-    // The lowest code that does, or 256 at the end of both.
-    code: u16,
+    // The lowest code that does.
+    code: u8,
     // The value that each profile has for it, or absent.
     first: u32,
     second: u32,
@@ -41,64 +37,58 @@ struct Next {
     j: usize,
 }
 
-// Returns the code of the record at an index, or 256 at the end of the profile.
-fn code_from(profile: &[u8], at: usize) -> u16
-    requires { ⌜ at ≤ length (now profile) ⌝ }
-    ensures { λ r. ⌜ r ≡ codeFrom (now (profile .entry)) at ⌝ }
+// Returns the code of the record at an index.
+fn code_at(profile: &[u8], at: usize) -> u8
+    requires { ⌜ at + recordSize ≤ length (now profile) ⌝ }
+    ensures { λ r. ⌜ r ≡ codeIn (drop at (now (profile .entry))) ⌝ }
 {
-    if at < profile.len() {
-        let i = at + CODE_AT;
-        return wide16(byte_at(profile, Position(i)));
-    }
-    ALL_CODES
+    profile[at + CODE_AT]
 }
 
-// Returns the value of the record at an index, where it has this code; else absent.
-fn value_for(profile: &[u8], at: usize, code: u16) -> u32
-    requires { ⌜ at ≤ length (now profile) ⌝ }
-    ensures { λ r. ⌜ r ≡ valueFor (now (profile .entry)) at code ⌝ }
+// Returns the value of the record at an index.
+fn value_at(profile: &[u8], at: usize) -> u32
+    requires { ⌜ at + recordSize ≤ length (now profile) ⌝ }
+    ensures { λ r. ⌜ r ≡ valueIn (drop at (now (profile .entry))) ⌝ }
 {
-    if code_from(profile, at) == code {
-        let i = at + VALUE_AT;
-        return word_at(profile, Position(i)) as u32;
-    }
-    ABSENT
-}
-
-// Returns the index behind the record at an index, where it has this code; else that index.
-fn behind(profile: &[u8], at: usize, code: u16) -> usize
-    requires { ⌜ at ≤ length (now profile) ⌝ }
-    ensures { λ r. ⌜ r ≡ behindOf (now (profile .entry)) at code ⌝ }
-{
-    if code_from(profile, at) == code {
-        return at + RECORD_SIZE;
-    }
-    at
-}
-
-// Returns the lower of two codes.
-fn lower(a: u16, b: u16) -> u16
-    ensures { λ r. ⌜ r ≡ min a b ⌝ }
-{
-    if a <= b { a } else { b }
+    word(profile[at + VALUE_AT], profile[at + VALUE_AT + 1]) as u32
 }
 
 // Returns what comes next in two profiles, from an index of each on.
 fn next_in(first: &[u8], i: usize, second: &[u8], j: usize) -> Next
-    requires { ⌜ (i ≤ length (now first)) × (j ≤ length (now second)) ⌝ }
+    requires { ⌜ (i + recordSize ≤ length (now first)) × (j + recordSize ≤ length (now second)) ⌝ }
     ensures { λ r. ⌜ r ≡ nextIn (now (first .entry)) i (now (second .entry)) j ⌝ }
 {
-    let code = lower(code_from(first, i), code_from(second, j));
+    let one = code_at(first, i);
+    let other = code_at(second, j);
+    if one == other {
+        return Next {
+            code: one,
+            first: value_at(first, i),
+            second: value_at(second, j),
+            i: i + RECORD_SIZE,
+            j: j + RECORD_SIZE,
+        };
+    }
+    if one < other {
+        return Next {
+            code: one,
+            first: value_at(first, i),
+            second: ABSENT,
+            i: i + RECORD_SIZE,
+            j: j,
+        };
+    }
     Next {
-        code: code,
-        first: value_for(first, i, code),
-        second: value_for(second, j, code),
-        i: behind(first, i, code),
-        j: behind(second, j, code),
+        code: other,
+        first: ABSENT,
+        second: value_at(second, j),
+        i: i,
+        j: j + RECORD_SIZE,
     }
 }
 
 // Returns how many differences two accepted profiles have.
+// Where one of them has ended, each record left in the other is one.
 fn count(first: &[u8], second: &[u8]) -> usize
     requires { ⌜ Accepted (now first) (now second) ⌝ }
     ensures { λ r. ⌜ r ≡ length (listOf (now (first .entry)) (now (second .entry))) ⌝ }
@@ -106,20 +96,45 @@ fn count(first: &[u8], second: &[u8]) -> usize
     let mut i: usize = 0;
     let mut j: usize = 0;
     let mut n: usize = 0;
-    loop {
+    while i < first.len() && j < second.len() {
         let next = next_in(first, i, second, j);
-        if next.code == ALL_CODES {
-            return n;
-        }
         i = next.i;
         j = next.j;
         if next.first != next.second {
             n += 1;
         }
     }
+    n + (first.len() - i) / RECORD_SIZE + (second.len() - j) / RECORD_SIZE
 }
 
-// Lists the differences of two accepted profiles: each at its place in an array of codes and two of values.
+// Lists each record left in a profile, from an index on, as a difference from one that has ended.
+// Its code and its value stand at its place, and absent for the other's value; the first is at the place given.
+// Returns the place behind the last.
+fn list_rest(
+    profile: &[u8],
+    from: usize,
+    codes: &mut [u8],
+    values: &mut [u32],
+    others: &mut [u32],
+    place: usize,
+) -> usize
+    requires { ⌜ (from ≤ length (now profile)) × (place + length (settingsFrom (now profile) from) ≤ roomIn (lent (now codes) (now values) (now others))) ⌝ }
+    ensures { λ r. ⌜ r ≡ place + length (settingsFrom (now (profile .entry)) from) ⌝ }
+    ensures { λ r. ⌜ lent (now (codes .exit)) (now (values .exit)) (now (others .exit)) ≡ restIn place (settingsFrom (now (profile .entry)) from) (lent (now (codes .entry)) (now (values .entry)) (now (others .entry))) ⌝ }
+{
+    let mut at = from;
+    let mut n = place;
+    while RECORD_SIZE <= profile.len() - at {
+        codes[n] = code_at(profile, at);
+        values[n] = value_at(profile, at);
+        others[n] = ABSENT;
+        at += RECORD_SIZE;
+        n += 1;
+    }
+    n
+}
+
+// Lists the differences of two accepted profiles, each at its place in an array of codes and two of values.
 // Returns how many they are.
 fn list(
     first: &[u8],
@@ -135,20 +150,19 @@ fn list(
     let mut i: usize = 0;
     let mut j: usize = 0;
     let mut n: usize = 0;
-    loop {
+    while i < first.len() && j < second.len() {
         let next = next_in(first, i, second, j);
-        if next.code == ALL_CODES {
-            return n;
-        }
         i = next.i;
         j = next.j;
         if next.first != next.second {
-            codes[n] = next.code as u8;
+            codes[n] = next.code;
             firsts[n] = next.first;
             seconds[n] = next.second;
             n += 1;
         }
     }
+    let behind = list_rest(first, i, codes, firsts, seconds, n);
+    list_rest(second, j, codes, seconds, firsts, behind)
 }
 
 // Returns a refusal: its number, which profile, and where in it.

@@ -18,7 +18,7 @@ ghost use Rattle.records.specs.Numbers.{littleEndian, wordAt, longAt};
 ghost use Rattle.records.specs.Records.{headOf, beginsWith};
 
 // Returns the number of two bytes, the low one first.
-fn word(low: u8, high: u8) -> u16
+pub fn word(low: u8, high: u8) -> u16
     ensures { λ r. ⌜ r ≡ low + high * 256 ⌝ }
 {
     wide16(low) + wide16(high) * 256

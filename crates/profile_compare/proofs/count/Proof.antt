@@ -1,14 +1,18 @@
 -- `count` goes through both profiles. The invariant: the differences so far, and those still to come, are all. The measure: the
 -- bytes left in both.
-use mathlib.Core.Path.{_≡_, refl, sym, ap, _∙_}
+use mathlib.Core.Path.{_≡_}
+use mathlib.Core.Logic.{_⊎_, inl, inr, ⊎-elim}
 use mathlib.Core.List.{List}
-use Prim.Native.Nat.{ℕ, _+_, _-_, _≤_}
+use Prim.Native.Nat.{ℕ, _+_, _-_, _/_, _≤_, _<_}
 use native.Mathlib.Omega.{arith}
 use lib.ListN.{length}
+use borrow.Author.Tests.{ltb-true, ltb-false}
 use Rattle.checksum.proofs.Bytes.{bytes-of}
+use Rattle.profile_form_rules.specs.Records.{recordSize}
 use Rattle.profile_compare_rules.specs.Compare.{Difference}
 use Rattle.profile_compare.specs.Parts.{listOf}
-use Rattle.profile_compare.proofs.Listing.{Counted, counted-none, counted-all, counted-few, counted-same, counted-next, counted-less}
+use Rattle.profile_compare.proofs.Walk.{walk-room, walk-less}
+use Rattle.profile_compare.proofs.Listing.{Counted, list-few, counted-few, counted-none, counted-same, counted-next, counted-left}
 use Rattle.profile_compare.proofs.count.Statement.{statement}
 use Rattle.profile_compare.proofs.count.Tie as tie
 
@@ -30,48 +34,67 @@ loop-holds c =
     let t = given .args .second .now in
     record { rest = listOf s t; so-far = counted-none s t (bytes-of s (λ k. omega (arith, c .before .shared-slice-known .given k))) (bytes-of t (λ k. omega (arith, c .shared-slice-known2 .given k))) (given .pre) }
 
-next-in-requires : tie.Need-next-in-requires Inv-loop μ-loop
-next-in-requires c κs = let w = c .loop .inv .so-far .walk in (w .first .inside, w .second .inside)
+-- both have a record left
+both : (c : tie.Then1 Inv-loop μ-loop) → let turn = c .before .before in let given = turn .before .before .before in
+    (turn .loop .i < length (given .args .first .now)) × (turn .loop .j < length (given .args .second .now))
+both c = (c .before .loop-test .taken, ltb-true _ _ (c .if1 .taken))
 
-returns : tie.Need-returns Inv-loop μ-loop
-returns c =
-    let turn = c .before .before .before in
-    let given = turn .before .before .before in
-    let k = turn .loop .inv in
-    let none = counted-all (given .args .first .now) (given .args .second .now) (turn .loop .i) (turn .loop .j) (turn .loop .n) (k .rest) (k .so-far) _ (c .before .before .next-in .ensures) (c .if1 .taken) in
-    omega (arith, k .so-far .counted, ap length none)
+next-in-requires : tie.Need-next-in-requires Inv-loop μ-loop
+next-in-requires c κs = let l = c .before .before .loop in walk-room _ _ (l .i) (l .j) (l .inv .rest) (l .inv .so-far .walk) (both c .0) (both c .1)
 
 add-n : tie.Need-add-n Inv-loop μ-loop
-add-n c = let turn = c .before .before .before .before .before in omega (arith, counted-few _ _ (turn .loop .i) (turn .loop .j) (turn .loop .n) (turn .loop .inv .rest) (turn .loop .inv .so-far))
+add-n c = let l = c .before .before .before .before .before .loop in omega (arith, counted-few _ _ (l .i) (l .j) (l .n) (l .inv .rest) (l .inv .so-far))
 
 loop-less : tie.Need-loop-less Inv-loop μ-loop
 loop-less c =
-    let other = c .before .before in
-    let turn = other .before .before .before in
-    let k = turn .loop .inv in
-    counted-less _ _ (turn .loop .i) (turn .loop .j) (turn .loop .n) (k .rest) (k .so-far) _ (other .before .before .next-in .ensures) (other .if1 .left)
+    let next = c .before .before in
+    let l = next .before .before .before .loop in
+    walk-less _ _ (l .i) (l .j) (l .inv .rest) (l .inv .so-far .walk) (both (next .before) .0) (both (next .before) .1) _ (next .next-in .ensures)
 
 loop-again : tie.Need-loop-again Inv-loop μ-loop
 loop-again c =
-    let other = c .before .before in
-    let turn = other .before .before .before in
-    let k = turn .loop .inv in
-    let next = counted-next _ _ (turn .loop .i) (turn .loop .j) (turn .loop .n) (k .rest) (k .so-far) _ (other .before .before .next-in .ensures) (other .if1 .left) (c .if2 .taken) in
-    record { rest = next .left; so-far = next .on }
+    let next = c .before .before in
+    let l = next .before .before .before .loop in
+    let x = counted-next _ _ (l .i) (l .j) (l .n) (l .inv .rest) (l .inv .so-far) (both (next .before) .0) (both (next .before) .1) _ (next .next-in .ensures) (c .if2 .taken) in
+    record { rest = x .left; so-far = x .on }
 
 loop-less-2 : tie.Need-loop-less-2 Inv-loop μ-loop
 loop-less-2 c =
-    let other = c .before .before in
-    let turn = other .before .before .before in
-    let k = turn .loop .inv in
-    counted-less _ _ (turn .loop .i) (turn .loop .j) (turn .loop .n) (k .rest) (k .so-far) _ (other .before .before .next-in .ensures) (other .if1 .left)
+    let next = c .before .before in
+    let l = next .before .before .before .loop in
+    walk-less _ _ (l .i) (l .j) (l .inv .rest) (l .inv .so-far .walk) (both (next .before) .0) (both (next .before) .1) _ (next .next-in .ensures)
 
 loop-again-2 : tie.Need-loop-again-2 Inv-loop μ-loop
 loop-again-2 c =
-    let other = c .before .before in
-    let turn = other .before .before .before in
-    let k = turn .loop .inv in
-    record { rest = k .rest; so-far = counted-same _ _ (turn .loop .i) (turn .loop .j) (turn .loop .n) (k .rest) (k .so-far) _ (other .before .before .next-in .ensures) (other .if1 .left) (c .if2 .left) }
+    let next = c .before .before in
+    let l = next .before .before .before .loop in
+    record { rest = l .inv .rest; so-far = counted-same _ _ (l .i) (l .j) (l .n) (l .inv .rest) (l .inv .so-far) (both (next .before) .0) (both (next .before) .1) _ (next .next-in .ensures) (c .if2 .left) }
+
+-- one has ended
+ended : (c : tie.Left-loop Inv-loop μ-loop) → let turn = c .before in let given = turn .before .before .before in
+    (length (given .args .first .now) ≤ turn .loop .i) ⊎ (length (given .args .second .now) ≤ turn .loop .j)
+ended c = ⊎-elim (λ w. inr (ltb-false _ _ (w .1 .left))) (λ w. inl (w .left)) (c .loop-test .came)
+
+-- so the records left are all that are to come
+all : (c : tie.Left-loop Inv-loop μ-loop) → let turn = c .before in let given = turn .before .before .before in let l = turn .loop in
+    let s = given .args .first .now in let t = given .args .second .now in
+    l .n + (length s - l .i) / recordSize + (length t - l .j) / recordSize ≡ length (listOf s t)
+all c = let l = c .before .loop in counted-left _ _ (l .i) (l .j) (l .n) (l .inv .rest) (l .inv .so-far) (ended c)
+
+sub-result : tie.Need-sub-result Inv-loop μ-loop
+sub-result c = c .before .loop .inv .so-far .walk .first .inside
+
+add-result : tie.Need-add-result Inv-loop μ-loop
+add-result c = let given = c .before .before .before .before in omega (arith, all c, list-few (given .args .first .now) (given .args .second .now))
+
+sub-result-2 : tie.Need-sub-result-2 Inv-loop μ-loop
+sub-result-2 c = c .before .loop .inv .so-far .walk .second .inside
+
+add-result-2 : tie.Need-add-result-2 Inv-loop μ-loop
+add-result-2 c = let given = c .before .before .before .before in omega (arith, all c, list-few (given .args .first .now) (given .args .second .now))
+
+returns : tie.Need-returns Inv-loop μ-loop
+returns c = all c
 
 pub count-spec : {M : Type 1} → statement M
 count-spec =
@@ -81,9 +104,13 @@ count-spec =
     μ-loop
     loop-holds
     next-in-requires
-    returns
     add-n
     loop-less
     loop-again
     loop-less-2
-    loop-again-2)
+    loop-again-2
+    sub-result
+    add-result
+    sub-result-2
+    add-result-2
+    returns)

@@ -55,6 +55,15 @@ put-next out at a b h =
     ∙ append-assoc (take at out) a (b ++ drop (at + length (a ++ b)) out)
     ∙ ap (λ (x : List ℕ). take at out ++ x) (sym (append-assoc a b (drop (at + length (a ++ b)) out)))
 
+-- a run that fits, put behind what was put so far
+pub put-then : (out : List ℕ) (at : ℕ) (a b one two : List ℕ) (end : ℕ) → one ≡ put out at a → end ≡ at + length a → two ≡ put one end b → end + length b ≤ length out → two ≡ put out at (a ++ b)
+put-then out at a b one two end e q f h = f ∙ ap₂ (λ (s : List ℕ) (i : ℕ). put s i b) e q ∙ put-next out at a b (omega arith)
+
+pub put-whole-then : (out : List ℕ) (at : ℕ) (a b one two : List ℕ) (end : ℕ) → one ≡ put out at a → end ≡ at + length a → two ≡ putWhole one end b → end + length b ≤ length out → two ≡ put out at (a ++ b)
+put-whole-then out at a b one two end e q f h =
+    let size : length one ≡ length out = ap length e ∙ put-length out at a (omega arith) in
+    put-then out at a b one two end e q (f ∙ put-fits one end b (omega arith)) h
+
 -- one run behind another, by the part of the output that it goes into
 pub over-next : (out x y : List ℕ) → take (length x) (over x out) ++ over y (drop (length x) (over x out)) ≡ over (x ++ y) out
 over-next out x y =

@@ -1,49 +1,28 @@
 -- Lines of numbers, one behind the other.
 use mathlib.Core.Path.{_≡_, refl, sym, ap, ap₂, subst, _∙_}
-use mathlib.Core.Bool.{Bool, true, false}
 use mathlib.Core.List.{List, [], _∷_, _++_, append-assoc}
-use Prim.Native.Nat.{ℕ, suc, _+_, _-_, _*_, _^_, _≤_, _<_}
-use native.Mathlib.Nat.{zero-lt-suc, pow-le-pow-right}
+use Prim.Native.Nat.{ℕ, suc, _+_, _-_, _*_, _≤_, _<_}
 use native.Mathlib.Omega.{arith}
 use lib.ListN.{length, getD, take, drop, length-append, length-map, List·getD-map}
 use lib.Seq.{take-suc, take-all, length-take-le, take-append-add, take-append-seam}
-use lib.Dec.{leb}
-use borrow.Author.Tests.{leb-true, leb-false}
-use Rattle.io.specs.Digits.{Fewest}
 use Rattle.buffers.specs.Buffers.{put, putWhole}
-use Rattle.buffers.proofs.Puts.{put-none, put-fits, put-length, put-next}
+use Rattle.buffers.proofs.Puts.{put-none, put-fits, put-length, put-next, put-whole-then}
 use Rattle.call_list_rules.specs.CallList.{checkList, noEntry, entryOf}
 use Rattle.call_list_rules.specs.Statements.{IsList, tokensOf}
 use Rattle.call_list_rules.specs.declared.Checked.{Checked}
 use Rattle.call_list_rules.specs.declared.Entry.{Entry}
 use Rattle.call_list_rules.proofs.Theorems.{accepts-exactly, entries-given, refused-none}
-use Rattle.gate_check.specs.Tokens.{Decimal, Lines, none, line, Written}
+use Rattle.numerals.specs.Numerals.{Decimal}
+use Rattle.gate_check.specs.Tokens.{Lines, none, line, Written}
 use Rattle.gate_check.specs.Parts.{lineRoom, PutsLine, PutsTokens}
 
 -- ---- a line
-
--- a number of 32 bits has at most ten digits
-pub places-short : (n k : ℕ) → n < 4294967296 → Fewest 10 1 n k → k < lineRoom
-places-short n k h f = go (leb k 10) refl
-  where
-    go : (t : Bool) → leb k 10 ≡ t → k < lineRoom
-    go true e = let l = leb-true k 10 e in omega arith
-    go false e =
-        let l = leb-false k 10 e in
-        let p : 10000000000 ≤ 10 ^ (k - 1) = pow-le-pow-right {n = 10} (zero-lt-suc 9) {i = 10} {j = k - 1} (omega arith) in
-        let q = f .2 (omega arith) in
-        absurd (omega arith)
 
 -- the number is put, and the line end behind it
 pub line-put : (before number one two : List ℕ) (at end : ℕ) → at + lineRoom ≤ length before → length number < lineRoom → one ≡ putWhole before at number
     → end ≡ at + length number → two ≡ putWhole one end (0x0A ∷ []) → two ≡ put before at (number ++ (0x0A ∷ []))
 line-put before number one two at end room short e q f =
-    let p : one ≡ put before at number = e ∙ put-fits before at number (omega arith) in
-    let size : length (put before at number) ≡ length before = put-length before at number (omega arith) in
-    f
-    ∙ ap₂ (λ (s : List ℕ) (i : ℕ). putWhole s i (0x0A ∷ [])) p q
-    ∙ put-fits (put before at number) (at + length number) (0x0A ∷ []) (omega arith)
-    ∙ put-next before at number (0x0A ∷ []) (omega arith)
+    put-whole-then before at number (0x0A ∷ []) one two end (e ∙ put-fits before at number (omega arith)) q f (omega arith)
 
 -- a line that fits leaves the text as long as it was
 pub line-length : (n : ℕ) (before after : List ℕ) (at end : ℕ) → at + lineRoom ≤ length before → PutsLine n before at after end → length after ≡ length before

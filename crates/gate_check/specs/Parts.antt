@@ -5,7 +5,8 @@ use mathlib.Core.List.{List, [], _∷_, _++_}
 use lib.ListN.{length}
 use Rattle.buffers.specs.Buffers.{put}
 use Rattle.call_list_rules.specs.Limits.{mostEntries}
-use Rattle.gate_check.specs.Tokens.{Decimal, Written}
+use Rattle.numerals.specs.Numerals.{Decimal}
+use Rattle.gate_check.specs.Tokens.{Written}
 
 -- the room for a line, and for the lines of any list
 abbrev pub lineRoom : ℕ

@@ -2,18 +2,12 @@
 use Prim.Native.Nat.{ℕ}
 use mathlib.Core.Path.{_≡_}
 use mathlib.Core.List.{List, [], _∷_, _++_}
-use Rattle.io.specs.Digits.{digits, Fewest}
+use Rattle.numerals.specs.Numerals.{Decimal}
 use Rattle.call_list_rules.specs.CallList.{checkList}
 use Rattle.call_list_rules.specs.Statements.{IsList, tokensOf}
 use Rattle.call_list_rules.specs.declared.Entry.{Entry}
 
--- "decimal": as few digits as hold the number, at least one, the highest first
-pub record Decimal (n : ℕ) (text : List ℕ) : Type 0 where
-  pub places : ℕ
-  pub fewest : Fewest 10 1 n places
-  pub is : text ≡ digits 10 places n
-
--- "one a line": behind each number a line end, 0A
+-- "decimal, one a line": behind each number a line end, 0A
 pub data Lines : (numbers text : List ℕ) → Type 0 where
   none : Lines [] []
   line : {n : ℕ} {ns number text : List ℕ} → Decimal n number → Lines ns text → Lines (n ∷ ns) (number ++ (0x0A ∷ text))

@@ -1,8 +1,8 @@
 // What the program writes: the lines of a list's tokens.
-use buffers::put;
 use buffers::put_octet;
 use call_list_rules::EntryNumber;
 use call_list_rules::limits::MOST_ENTRIES;
+use numerals::put_decimal;
 ghost use Prim.Native.Nat.{_+_, _≤_};
 ghost use lib.ListN.{length};
 ghost use Rattle.gate_check.specs.Parts.{PutsLine, PutsTokens, lineRoom, textRoom};
@@ -19,10 +19,7 @@ fn put_line(text: &mut [u8], at: usize, token: u32) -> usize
     requires { ⌜ at + lineRoom ≤ length (now text) ⌝ }
     ensures { λ r. ⌜ PutsLine token (now (text .entry)) at (now (text .exit)) r ⌝ }
 {
-    let mut digits = [0u8; 20];
-    let n = io::decimal(token as u64, &mut digits);
-    put(text, at, &digits[..n]);
-    let end = at + n;
+    let end = at + put_decimal(text, at, token);
     put_octet(text, end, b'\n');
     end + 1
 }

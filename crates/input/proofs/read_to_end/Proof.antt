@@ -1,18 +1,17 @@
 -- `read_to_end` is safe and ends: each turn leaves less room.
 use mathlib.Core.Path.{_≡_}
-use Prim.Native.Nat.{_+_, _-_, _≤_}
+use Prim.Native.Nat.{_-_, _≤_}
 use native.Mathlib.Omega.{arith}
 use lib.ListN.{length}
 use borrow.Author.Needs.{needs}
-use Rattle.call_list_rules.specs.Limits.{longestList}
-use Rattle.gate_check.proofs.input.read_to_end.Statement.{statement}
-use Rattle.gate_check.proofs.input.read_to_end.Tie as tie
+use Rattle.input.proofs.read_to_end.Statement.{statement}
+use Rattle.input.proofs.read_to_end.Tie as tie
 
 abbrev Inv-loop : tie.InvT-loop
-Inv-loop input₀ part₀ at₀ input part at = (at ≤ length input) × (length input ≡ length input₀) × (length part ≡ longestList + 1)
+Inv-loop from input₀ part₀ at₀ input part at = (at ≤ length input) × (length input ≡ length input₀) × (length part ≡ 2048)
 
 abbrev μ-loop : tie.MeasureT-loop
-μ-loop input₀ part₀ at₀ input part at = length input - at
+μ-loop from input₀ part₀ at₀ input part at = length input - at
 
 loop-holds : tie.Need-loop-holds Inv-loop μ-loop
 loop-holds c = search needs
@@ -35,26 +34,23 @@ slice-aggregate-count c = search needs
 count-requires : tie.Need-count-requires Inv-loop μ-loop
 count-requires c κs = search needs
 
+sub-least : tie.Need-sub-least Inv-loop μ-loop
+sub-least c = search needs
+
+least-requires : tie.Need-least-requires Inv-loop μ-loop
+least-requires c κs = search needs
+
 same-length-2 : tie.Need-same-length-2 Inv-loop μ-loop
 same-length-2 c = search needs
 
 returns-2 : tie.Need-returns-2 Inv-loop μ-loop
 returns-2 c = search needs
 
-sub-if3 : tie.Need-sub-if3 Inv-loop μ-loop
-sub-if3 c = search needs
+slice-aggregate-front : tie.Need-slice-aggregate-front Inv-loop μ-loop
+slice-aggregate-front c = search needs
 
-same-length-3 : tie.Need-same-length-3 Inv-loop μ-loop
-same-length-3 c = search needs
-
-returns-3 : tie.Need-returns-3 Inv-loop μ-loop
-returns-3 c = search needs
-
-array-share-prefix-part : tie.Need-array-share-prefix-part Inv-loop μ-loop
-array-share-prefix-part c = search needs
-
-slice-aggregate-put : tie.Need-slice-aggregate-put Inv-loop μ-loop
-slice-aggregate-put c = search needs
+front-requires : tie.Need-front-requires Inv-loop μ-loop
+front-requires c κs = search needs
 
 put-requires : tie.Need-put-requires Inv-loop μ-loop
 put-requires c κs = search needs
@@ -68,11 +64,11 @@ loop-less c = search needs
 loop-again : tie.Need-loop-again Inv-loop μ-loop
 loop-again c = search needs
 
-same-length-4 : tie.Need-same-length-4 Inv-loop μ-loop
-same-length-4 c = search needs
+same-length-3 : tie.Need-same-length-3 Inv-loop μ-loop
+same-length-3 c = search needs
 
-returns-4 : tie.Need-returns-4 Inv-loop μ-loop
-returns-4 c = search needs
+returns-3 : tie.Need-returns-3 Inv-loop μ-loop
+returns-3 c = search needs
 
 pub read-to-end-spec : {M : Type 1} → statement M
 read-to-end-spec =
@@ -87,16 +83,15 @@ read-to-end-spec =
     returns
     slice-aggregate-count
     count-requires
+    sub-least
+    least-requires
     same-length-2
     returns-2
-    sub-if3
-    same-length-3
-    returns-3
-    array-share-prefix-part
-    slice-aggregate-put
+    slice-aggregate-front
+    front-requires
     put-requires
     add-at
     loop-less
     loop-again
-    same-length-4
-    returns-4)
+    same-length-3
+    returns-3)

@@ -1,16 +1,16 @@
 -- What is written of two profiles, from what the comparison answers.
 use mathlib.Core.Path.{_≡_, refl, sym, ap, ap₂, subst, _∙_}
 use mathlib.Core.List.{List, [], _∷_, _++_, map}
-use Prim.Native.Nat.{ℕ, zero, suc, _≤_, _<_}
+use Prim.Native.Nat.{ℕ, zero, suc, _≤_}
 use native.Mathlib.Omega.{arith}
-use lib.ListN.{length, getD}
+use lib.ListN.{length}
 use lib.Dec.{eqb}
 use borrow.Author.Tests.{eqb-true, eqb-false}
 use mathlib.Core.Bool.{Bool, true, false}
 use Rattle.checksum.specs.Bytes.{Bytes}
 use Rattle.codes.specs.Codes.{allCodes}
 use Rattle.profile_form_rules.specs.Form.{Setting, settingsOf}
-use Rattle.profile_form_rules.specs.Statements.{IsProfile, SomeProfile, Stands, here, later}
+use Rattle.profile_form_rules.specs.Statements.{IsProfile, Stands, here, later}
 use Rattle.profile_form_rules.proofs.Theorems.{read-and-written}
 use Rattle.profile_compare_rules.specs.Compare.{absent, valueOf, Difference, differences, Room, lent, listedIn, Outcome, outcome, compareProfiles}
 use Rattle.profile_compare_rules.specs.Statements.{IsList, linesIn, linesOf}
@@ -88,6 +88,6 @@ module _ (s t : List ℕ) (r : Room) (x : Compared) (codes firsts seconds : List
   -- or the refusal, where there is room for all codes
   pub refused-written : (x .answer ≡ 0 → ⊥) → 256 ≤ length (r .codes) → 256 ≤ length (r .first) → 256 ≤ length (r .second) → Written s t refusedLine
   refused-written n k l m = record {
-    lines = λ a b es p q i j w. absurd (n (ap (λ (o : Outcome). o .result .answer) e ∙ room-enough a b s t r p q i j k l m));
+    lines = λ a b es p q i j w. absurd (n (ap (λ (o : Outcome). o .result .answer) e ∙ room-enough a b s t r i j k l m));
     refused = λ z. refl;
   }

@@ -1,13 +1,13 @@
 -- Wrong rules, and that the statement does not hold of them: nothing is written of a profile that is refused, and the place
 -- is written with the number.
 use mathlib.Core.Path.{_≡_, ap}
-use mathlib.Core.List.{List, [], _∷_, _++_}
+use mathlib.Core.List.{List, [], _∷_}
 use Prim.Native.Nat.{ℕ}
 use native.Mathlib.Omega.{arith}
 use lib.ListN.{length}
 use Rattle.profile_form_rules.specs.Statements.{SomeProfile}
 use Rattle.profile_form_rules.proofs.Profiles.{records-size}
-use Rattle.compare_profiles.specs.Lines.{refusedLine, WriteRule, WritesDifferences}
+use Rattle.compare_profiles.specs.Lines.{WriteRule, WritesDifferences}
 
 -- a byte is no profile
 abbrev cut : List ℕ

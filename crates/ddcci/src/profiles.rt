@@ -4,7 +4,7 @@ ghost use Rattle.profile_compare_rules.specs.Compare.{lent, outcome, comparePro
 use profile_compare_rules::Compared;
 
 // Compares two profiles, and lists the codes that are in one only or whose values differ, rising.
-// Each stands at its place in the codes, with its value of the first profile and of the second in the other two arrays.
+// Each stands at its entry of the codes, with its value of the first profile and of the second in the other two arrays.
 // A profile that does not have the code has the value 65,536 there.
 // Returns how many differences are listed; or 17 with the profile and where its first bad record starts, the first
 // profile before the second; then 1 where an array is too short. A refusal lists nothing.

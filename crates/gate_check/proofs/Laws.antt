@@ -1,10 +1,10 @@
 -- Lines of numbers, one behind the other.
 use mathlib.Core.Path.{_≡_, refl, sym, ap, ap₂, subst, _∙_}
 use mathlib.Core.List.{List, [], _∷_, _++_, append-assoc}
-use Prim.Native.Nat.{ℕ, suc, _+_, _-_, _*_, _≤_, _<_}
+use Prim.Native.Nat.{ℕ, suc, _+_, _*_, _≤_, _<_}
 use native.Mathlib.Omega.{arith}
-use lib.ListN.{length, getD, take, drop, length-append, length-map, List·getD-map}
-use lib.Seq.{take-suc, take-all, length-take-le, take-append-add, take-append-seam}
+use lib.ListN.{length, getD, take, length-append, length-map, List·getD-map}
+use lib.Seq.{take-suc, take-all}
 use Rattle.buffers.specs.Buffers.{put, putWhole}
 use Rattle.buffers.proofs.Puts.{put-none, put-fits, put-length, put-next, put-whole-then}
 use Rattle.call_list_rules.specs.CallList.{checkList, noEntry, entryOf}
@@ -13,7 +13,7 @@ use Rattle.call_list_rules.specs.declared.Checked.{Checked}
 use Rattle.call_list_rules.specs.declared.Entry.{Entry}
 use Rattle.call_list_rules.proofs.Theorems.{accepts-exactly, entries-given, refused-none}
 use Rattle.numerals.specs.Numerals.{Decimal}
-use Rattle.gate_check.specs.Tokens.{Lines, none, line, Written}
+use Rattle.gate_check.specs.Tokens.{Lines, none, line}
 use Rattle.gate_check.specs.Parts.{lineRoom, PutsLine, PutsTokens}
 
 -- ---- a line

@@ -12,9 +12,11 @@ use message_rules::answer::CODE_NOT_ALLOWED;
 use message_rules::answer::DONE;
 use message_rules::answer::VALUE_TOO_LARGE;
 use message_rules::answer::WRONG_SIZE;
+use profile_form_rules::CODE_AT;
 use profile_form_rules::Judged;
 use profile_form_rules::RECORD_LENGTH;
 use profile_form_rules::RECORD_SIZE;
+use profile_form_rules::VALUE_AT;
 use profile_form_rules::VALUE_KIND;
 use profile_rules::Loaded;
 use profile_rules::Written;
@@ -27,7 +29,7 @@ use records::word_at;
 use settings_rules::Settings;
 ghost use mathlib.Core.Path.{_≡_};
 ghost use Prim.Native.Nat.{_+_, _*_, _/_, _≤_, _<_};
-ghost use lib.ListN.{length, getD, drop};
+ghost use lib.ListN.{length, drop};
 ghost use Rattle.buffers.specs.Buffers.{put};
 ghost use Rattle.codes.specs.Codes.{member};
 ghost use Rattle.profile_form_rules.specs.Records.{valueRecord, recordSize};
@@ -70,8 +72,8 @@ fn put_record(out: &mut [u8], at: Position, code: u8, value: u16)
     ensures { λ _. ⌜ now (out .exit) ≡ put (now (out .entry)) (at .0) (valueRecord code value) ⌝ }
 {
     put_head(out, at, RECORD_LENGTH, VALUE_KIND);
-    put_byte(out, after(at, 4), code);
-    put_word(out, after(at, 5), value);
+    put_byte(out, after(at, CODE_AT), code);
+    put_word(out, after(at, VALUE_AT), value);
 }
 
 // Puts the records of all codes of the set into the output, from its start on.
@@ -121,8 +123,8 @@ fn record_answer(s: &[u8], at: Position, code: u8, continuous: bool, maximum: u1
     ensures { λ r. ⌜ r ≡ recordAnswer code continuous maximum (drop (at .0) (now (s .entry))) ⌝ }
 {
     if stands(s, at, RECORD_LENGTH, VALUE_KIND) {
-        if byte_at(s, after(at, 4)) == code {
-            if settings::exceeds(continuous, maximum, word_at(s, after(at, 5))) {
+        if byte_at(s, after(at, CODE_AT)) == code {
+            if settings::exceeds(continuous, maximum, word_at(s, after(at, VALUE_AT))) {
                 return VALUE_TOO_LARGE;
             }
             return DONE;
@@ -184,8 +186,8 @@ fn store(mut s: Settings, profile: &[u8]) -> Settings
 {
     let mut at = Position(0);
     while RECORD_SIZE <= profile.len() - at.0 {
-        let i = wide(byte_at(profile, after(at, 4)));
-        let value = word_at(profile, after(at, 5));
+        let i = wide(byte_at(profile, after(at, CODE_AT)));
+        let value = word_at(profile, after(at, VALUE_AT));
         s.present[i] = value;
         s.saved[i] = value;
         at = after(at, RECORD_SIZE);

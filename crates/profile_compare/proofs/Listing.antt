@@ -1,8 +1,8 @@
 -- The loops: how many differences there are, and each at its place in the arrays.
 use mathlib.Core.Path.{_≡_, refl, sym, ap, ap₂, _∙_}
 use mathlib.Core.Logic.{_⊎_}
-use mathlib.Core.List.{List, [], _∷_, _++_, map, map-map, map-append}
-use Prim.Native.Nat.{ℕ, suc, _+_, _-_, _/_, _≤_, _<_}
+use mathlib.Core.List.{List, [], _∷_, _++_, map, map-append}
+use Prim.Native.Nat.{ℕ, _+_, _-_, _/_, _≤_, _<_}
 use native.Mathlib.Omega.{arith}
 use lib.ListN.{length, set, length-set, length-map, length-append}
 use Rattle.buffers.specs.Buffers.{over, put}
@@ -40,12 +40,12 @@ counted-none s t p q x = record { walk = walk-starts s t p q x; counted = omega 
 pub record Listed (s t : List ℕ) (n : ℕ) (rest : List Difference) (x : Next) : Type 0 where
   pub left : List Difference
   pub is : rest ≡ difference (x .code) (x .first) (x .second) ∷ left
-  pub on : Counted s t (x .i) (x .j) (n + 1) left
+  pub on : Counted s t (x .i .0) (x .j .0) (n + 1) left
 
 module _ (s t : List ℕ) (i j n : ℕ) (rest : List Difference) (k : Counted s t i j n rest) where
   -- a code that does not differ, and one that does
   module _ (l : i < length s) (m : j < length t) (x : Next) (e : x ≡ nextIn s i t j) where
-    pub counted-same : x .first ≡ x .second → Counted s t (x .i) (x .j) n rest
+    pub counted-same : x .first ≡ x .second → Counted s t (x .i .0) (x .j .0) n rest
     counted-same q = record { walk = walk-same s t i j rest (k .walk) l m x e q; counted = k .counted }
 
     pub counted-next : (x .first ≡ x .second → ⊥) → Listed s t n rest x

@@ -1,20 +1,20 @@
 -- The answers of the comparison, from the judgements and the list.
-use mathlib.Core.Path.{_≡_, sym, ap, ap₂, _∙_}
-use mathlib.Core.Bool.{Bool, true, false}
+use mathlib.Core.Path.{_≡_, sym, ap, ap₂}
+use mathlib.Core.Bool.{true, false}
 use mathlib.Core.List.{List}
-use Prim.Native.Nat.{ℕ, _≤_, _<_}
+use Prim.Native.Nat.{ℕ, _≤_}
 use native.Mathlib.Omega.{arith}
 use lib.ListN.{length}
-use lib.Dec.{ltb, leb, eqb}
+use lib.Dec.{ltb}
 use borrow.Author.Tests.{ltb-true, ltb-false, le-ltb, le-leb, lt-leb, eq-eqb, ne-eqb}
 use Rattle.codes.specs.Codes.{allCodes}
 use Rattle.message_rules.specs.Answer.{done, wrongSize}
 use Rattle.profile_form_rules.specs.Form.{settingsOf, judgeForm}
 use Rattle.profile_form_rules.specs.declared.Judged.{Judged}
-use Rattle.profile_compare_rules.specs.Compare.{Difference, Room, roomIn, listedIn, Outcome, outcome, neither, theFirst, theSecond, listDifferences, compareAs, compareProfiles}
+use Rattle.profile_compare_rules.specs.Compare.{Difference, Room, roomIn, listedIn, Outcome, outcome, refusal, neither, theFirst, theSecond, listDifferences, compareAs, compareProfiles}
 use Rattle.profile_compare_rules.specs.declared.Compared.{Compared}
 use Rattle.profile_compare_rules.proofs.Differences.{lines-few}
-use Rattle.profile_compare.specs.Parts.{listOf, refusal}
+use Rattle.profile_compare.specs.Parts.{listOf}
 
 -- ---- the room
 

@@ -1,4 +1,4 @@
--- The record at an index, as it is read, and the records left from there on.
+-- The record at a position, as it is read, and the records left from there on.
 use mathlib.Core.Path.{_≡_, sym, ap, ap₂, _∙_}
 use mathlib.Core.List.{List, [], _∷_}
 use Prim.Native.Nat.{ℕ, suc, _+_, _-_, _*_, _/_, _≤_, _<_}
@@ -7,7 +7,7 @@ use lib.ListN.{length, getD, drop, length-drop}
 use lib.Seq.{getD-drop, drop-drop}
 use borrow.Author.Tests.{eq-eqb, ne-eqb, lt-ltb, le-ltb}
 use Rattle.profile_form_rules.specs.Records.{recordSize, codeIn, valueIn}
-use Rattle.profile_form_rules.specs.Form.{Setting, settingsIn}
+use Rattle.profile_form_rules.specs.Form.{settingsIn}
 use Rattle.profile_compare_rules.specs.Compare.{absent}
 use Rattle.profile_compare.specs.Parts.{nextIn, settingsFrom}
 
@@ -36,17 +36,18 @@ module _ (s : List ℕ) (at : ℕ) where
 
 -- ---- what comes next in two profiles
 
-module _ (s : List ℕ) (i : ℕ) (t : List ℕ) (j one other x y : ℕ) (a : one ≡ codeIn (drop i s)) (b : other ≡ codeIn (drop j t)) where
+module _ (s : List ℕ) (i : ℕ) (t : List ℕ) (j one other x y k l : ℕ) (a : one ≡ codeIn (drop i s)) (b : other ≡ codeIn (drop j t)) where
   -- the same code in both
-  pub next-both : one ≡ other → x ≡ valueIn (drop i s) → y ≡ valueIn (drop j t)
-      → record { code = one; first = x; second = y; i = i + recordSize; j = j + recordSize } ≡ nextIn s i t j
-  next-both e p q = rw (eq-eqb (codeIn (drop i s)) (codeIn (drop j t)) (sym a ∙ e ∙ b)) (cc (a, p, q))
+  pub next-both : one ≡ other → x ≡ valueIn (drop i s) → y ≡ valueIn (drop j t) → k ≡ i + recordSize → l ≡ j + recordSize
+      → record { code = one; first = x; second = y; i = record { 0 = k }; j = record { 0 = l } } ≡ nextIn s i t j
+  next-both e p q m n = rw (eq-eqb (codeIn (drop i s)) (codeIn (drop j t)) (sym a ∙ e ∙ b)) (cc (a, p, q, m, n))
 
   -- a lower one in the first, or in the second
-  pub next-first : one < other → x ≡ valueIn (drop i s) → record { code = one; first = x; second = absent; i = i + recordSize; j = j } ≡ nextIn s i t j
-  next-first l p =
-      rw (ne-eqb (codeIn (drop i s)) (codeIn (drop j t)) (λ z. omega arith), lt-ltb (codeIn (drop i s)) (codeIn (drop j t)) (omega arith)) (cc (a, p))
+  pub next-first : one < other → x ≡ valueIn (drop i s) → k ≡ i + recordSize → record { code = one; first = x; second = absent; i = record { 0 = k }; j = record { 0 = j } } ≡ nextIn s i t j
+  next-first h p m =
+      rw (ne-eqb (codeIn (drop i s)) (codeIn (drop j t)) (λ z. omega arith), lt-ltb (codeIn (drop i s)) (codeIn (drop j t)) (omega arith)) (cc (a, p, m))
 
-  pub next-second : (one ≡ other → ⊥) → other ≤ one → y ≡ valueIn (drop j t) → record { code = other; first = absent; second = y; i = i; j = j + recordSize } ≡ nextIn s i t j
-  next-second n l q =
-      rw (ne-eqb (codeIn (drop i s)) (codeIn (drop j t)) (λ z. n (a ∙ z ∙ sym b)), le-ltb (codeIn (drop i s)) (codeIn (drop j t)) (omega arith)) (cc (b, q))
+  pub next-second : (one ≡ other → ⊥) → other ≤ one → y ≡ valueIn (drop j t) → l ≡ j + recordSize
+      → record { code = other; first = absent; second = y; i = record { 0 = i }; j = record { 0 = l } } ≡ nextIn s i t j
+  next-second n h q m =
+      rw (ne-eqb (codeIn (drop i s)) (codeIn (drop j t)) (λ z. n (a ∙ z ∙ sym b)), le-ltb (codeIn (drop i s)) (codeIn (drop j t)) (omega arith)) (cc (b, q, m))

@@ -19,7 +19,7 @@ use Rattle.profile_form_rules.proofs.Theorems.{accepted-profile}
 use Rattle.profile_form_rules.proofs.Profiles.{records-size, records-read}
 use Rattle.profile_compare_rules.specs.Compare.{absent, valueOf, Difference, differences}
 use Rattle.profile_compare_rules.specs.Statements.{difference}
-use Rattle.profile_compare_rules.proofs.Values.{value-here, value-below, Small, nil, cons, records-small}
+use Rattle.profile_compare_rules.proofs.Values.{value-here, value-below, Small, cons, records-small}
 use Rattle.profile_compare_rules.proofs.Differences.{rising-lower}
 use Rattle.profile_compare.specs.Parts.{Accepted, listOf, nextIn, settingsFrom}
 use Rattle.profile_compare.specs.declared.Next.{Next}
@@ -27,7 +27,7 @@ use Rattle.profile_compare.proofs.Merging.{Behind, behind-first, behind
 
 -- ---- what is left of one profile
 
--- from index i on, s has the records of these settings
+-- from position i on, s has the records of these settings
 pub record Left (s : List ℕ) (i : ℕ) (es : List Setting) : Type 0 where
   pub whole : Records [] es (drop i s)
   pub rising : Rising 0 (codesOf es)
@@ -48,13 +48,13 @@ left-read s i es l =
     let n : length (drop i s) / recordSize ≡ length es = omega (arith, records-size [] es (drop i s) (l .whole)) in
     ap (λ (k : ℕ). settingsIn k (drop i s)) n ∙ records-read [] es (drop i s) (l .whole)
 
--- ---- the record at an index
+-- ---- the record at a position
 
--- its code; the end counts as code 256, so that one of two profiles always has the lower code
+-- its code; the end counts as code 256, above every code, so that a step need not say which profile still has a record
 abbrev pub codeFrom : List ℕ → ℕ → ℕ
 codeFrom s at = cond (ltb at (length s)) (codeIn (drop at s)) allCodes
 
--- its value and the index behind it, where it has this code
+-- its value and the position behind it, where it has this code
 abbrev pub valueFor : List ℕ → ℕ → (code : ℕ) → ℕ
 valueFor s at code = cond (eqb (codeFrom s at) code) (valueIn (drop at s)) absent
 
@@ -133,7 +133,7 @@ step s i es c l h k = go es (drop i s) (l .whole) refl (l .rising) (l .small) l 
 
 -- ---- both profiles
 
--- from these indices on, the differences still to come are ds
+-- from these positions on, the differences still to come are ds
 pub record Walk (s t : List ℕ) (i j : ℕ) (ds : List Difference) : Type 0 where
   pub a : List Setting
   pub b : List Setting
@@ -169,7 +169,7 @@ other m n h = go (leb m n) refl
 
 -- what comes next, by the lower of the two codes
 abbrev pub atCode : (s t : List ℕ) (i j c : ℕ) → Next
-atCode s t i j c = record { code = c; first = valueFor s i c; second = valueFor t j c; i = behindOf s i c; j = behindOf t j c }
+atCode s t i j c = record { code = c; first = valueFor s i c; second = valueFor t j c; i = record { 0 = behindOf s i c }; j = record { 0 = behindOf t j c } }
 
 abbrev pub atLower : (s t : List ℕ) (i j : ℕ) → Next
 atLower s t i j = atCode s t i j (min (codeFrom s i) (codeFrom t j))
@@ -186,7 +186,7 @@ next-at s t i j l m = go (eqb (codeIn (drop i s)) (codeIn (drop j t))) (ltb (cod
     two : codeFrom t j ≡ codeIn (drop j t)
     two = rw (lt-ltb j (length t) m)
 
-    next-both : codeFrom s i ≡ c → codeFrom t j ≡ c → record { code = codeIn (drop i s); first = valueIn (drop i s); second = valueIn (drop j t); i = i + recordSize; j = j + recordSize } ≡ atLower s t i j
+    next-both : codeFrom s i ≡ c → codeFrom t j ≡ c → record { code = codeIn (drop i s); first = valueIn (drop i s); second = valueIn (drop j t); i = record { 0 = i + recordSize }; j = record { 0 = j + recordSize } } ≡ atLower s t i j
     next-both a b =
         let code : codeIn (drop i s) ≡ c = sym one ∙ a in
         let x = here-value s i c a in
@@ -195,7 +195,7 @@ next-at s t i j l m = go (eqb (codeIn (drop i s)) (codeIn (drop j t))) (ltb (cod
         let n = here-at t j c b in
         cc (code, x, y, k, n)
 
-    next-first : codeFrom s i ≡ c → (codeFrom t j ≡ c → ⊥) → record { code = codeIn (drop i s); first = valueIn (drop i s); second = absent; i = i + recordSize; j = j } ≡ atLower s t i j
+    next-first : codeFrom s i ≡ c → (codeFrom t j ≡ c → ⊥) → record { code = codeIn (drop i s); first = valueIn (drop i s); second = absent; i = record { 0 = i + recordSize }; j = record { 0 = j } } ≡ atLower s t i j
     next-first a b =
         let code : codeIn (drop i s) ≡ c = sym one ∙ a in
         let x = here-value s i c a in
@@ -204,7 +204,7 @@ next-at s t i j l m = go (eqb (codeIn (drop i s)) (codeIn (drop j t))) (ltb (cod
         let n = not-at t j c b in
         cc (code, x, y, k, n)
 
-    next-second : (codeFrom s i ≡ c → ⊥) → codeFrom t j ≡ c → record { code = codeIn (drop j t); first = absent; second = valueIn (drop j t); i = i; j = j + recordSize } ≡ atLower s t i j
+    next-second : (codeFrom s i ≡ c → ⊥) → codeFrom t j ≡ c → record { code = codeIn (drop j t); first = absent; second = valueIn (drop j t); i = record { 0 = i }; j = record { 0 = j + recordSize } } ≡ atLower s t i j
     next-second a b =
         let code : codeIn (drop j t) ≡ c = sym two ∙ b in
         let x = not-value s i c a in
@@ -233,7 +233,7 @@ next-at s t i j l m = go (eqb (codeIn (drop i s)) (codeIn (drop j t))) (ltb (cod
 pub record Further (s t : List ℕ) (ds : List Difference) (x : Next) : Type 0 where
   pub rest : List Difference
   pub is : ds ≡ difference (x .code) (x .first) (x .second) ∷ rest
-  pub walk : Walk s t (x .i) (x .j) rest
+  pub walk : Walk s t (x .i .0) (x .j .0) rest
 
 module _ (s t : List ℕ) (i j : ℕ) (ds : List Difference) (w : Walk s t i j ds) (l : i < length s) (m : j < length t) where
   abbrev c : ℕ
@@ -294,14 +294,14 @@ module _ (s t : List ℕ) (i j : ℕ) (ds : List Difference) (w : Walk s t i j d
     lower : x ≡ atLower s t i j
     lower = e ∙ next-at s t i j l m
 
-    pub walk-same : x .first ≡ x .second → Walk s t (x .i) (x .j) ds
-    walk-same q = subst (λ (y : Next). y .first ≡ y .second → Walk s t (y .i) (y .j) ds) (sym lower) same-here q
+    pub walk-same : x .first ≡ x .second → Walk s t (x .i .0) (x .j .0) ds
+    walk-same q = subst (λ (y : Next). y .first ≡ y .second → Walk s t (y .i .0) (y .j .0) ds) (sym lower) same-here q
 
     pub walk-differs : (x .first ≡ x .second → ⊥) → Further s t ds x
     walk-differs q = subst (λ (y : Next). (y .first ≡ y .second → ⊥) → Further s t ds y) (sym lower) differs-here q
 
-    pub walk-less : (length s - x .i) + (length t - x .j) < (length s - i) + (length t - j)
-    walk-less = subst (λ (y : Next). (length s - y .i) + (length t - y .j) < (length s - i) + (length t - j)) (sym lower) less-here
+    pub walk-less : (length s - x .i .0) + (length t - x .j .0) < (length s - i) + (length t - j)
+    walk-less = subst (λ (y : Next). (length s - y .i .0) + (length t - y .j .0) < (length s - i) + (length t - j)) (sym lower) less-here
 
 -- ---- the end of one
 

@@ -22,8 +22,8 @@ ghost use Prim.Native.Nat.{_+_, _≤_};
 ghost use lib.ListN.{length, drop};
 ghost use lib.Dec.{ltb};
 ghost use Rattle.profile_form_rules.specs.Records.{recordSize, codeIn, valueIn};
-ghost use Rattle.profile_compare_rules.specs.Compare.{lent, roomIn, listedIn, outcome, listDifferences, compareProfiles};
-ghost use Rattle.profile_compare.specs.Parts.{Accepted, listOf, nextIn, settingsFrom, restIn, refusal};
+ghost use Rattle.profile_compare_rules.specs.Compare.{lent, roomIn, listedIn, outcome, refusal, listDifferences, compareProfiles};
+ghost use Rattle.profile_compare.specs.Parts.{Accepted, listOf, nextIn, settingsFrom, restIn};
 
 // What comes next in two profiles that both have a record left.
 struct Next {
@@ -32,31 +32,41 @@ struct Next {
     // The value that each profile has for it, or absent.
     first: u32,
     second: u32,
-    // The indices behind the records that have it.
-    i: usize,
-    j: usize,
+    // The positions behind the records that have it.
+    i: Position,
+    j: Position,
 }
 
-// Returns the code of the record at an index.
-fn code_at(profile: &[u8], at: usize) -> u8
-    requires { ⌜ at + recordSize ≤ length (now profile) ⌝ }
-    ensures { λ r. ⌜ r ≡ codeIn (drop at (now (profile .entry))) ⌝ }
+// Returns the code of the record at a position.
+fn code_at(profile: &[u8], at: Position) -> u8
+    requires { ⌜ at .0 + recordSize ≤ length (now profile) ⌝ }
+    ensures { λ r. ⌜ r ≡ codeIn (drop (at .0) (now (profile .entry))) ⌝ }
 {
-    profile[at + CODE_AT]
+    profile[at.0 + CODE_AT]
 }
 
-// Returns the value of the record at an index.
-fn value_at(profile: &[u8], at: usize) -> u32
-    requires { ⌜ at + recordSize ≤ length (now profile) ⌝ }
-    ensures { λ r. ⌜ r ≡ valueIn (drop at (now (profile .entry))) ⌝ }
+// Returns the value of the record at a position.
+fn value_at(profile: &[u8], at: Position) -> u32
+    requires { ⌜ at .0 + recordSize ≤ length (now profile) ⌝ }
+    ensures { λ r. ⌜ r ≡ valueIn (drop (at .0) (now (profile .entry))) ⌝ }
 {
-    word(profile[at + VALUE_AT], profile[at + VALUE_AT + 1]) as u32
+    let i = at.0 + VALUE_AT;
+    word(profile[i], profile[i + 1]) as u32
 }
 
-// Returns what comes next in two profiles, from an index of each on.
-fn next_in(first: &[u8], i: usize, second: &[u8], j: usize) -> Next
-    requires { ⌜ (i + recordSize ≤ length (now first)) × (j + recordSize ≤ length (now second)) ⌝ }
-    ensures { λ r. ⌜ r ≡ nextIn (now (first .entry)) i (now (second .entry)) j ⌝ }
+// Returns the position behind the record at a position.
+fn behind(profile: &[u8], at: Position) -> Position
+    requires { ⌜ at .0 + recordSize ≤ length (now profile) ⌝ }
+    ensures { λ r. ⌜ r .0 ≡ at .0 + recordSize ⌝ }
+{
+    let next = at.0 + RECORD_SIZE;
+    Position(next)
+}
+
+// Returns what comes next in two profiles, from a position of each on.
+fn next_in(first: &[u8], i: Position, second: &[u8], j: Position) -> Next
+    requires { ⌜ (i .0 + recordSize ≤ length (now first)) × (j .0 + recordSize ≤ length (now second)) ⌝ }
+    ensures { λ r. ⌜ r ≡ nextIn (now (first .entry)) (i .0) (now (second .entry)) (j .0) ⌝ }
 {
     let one = code_at(first, i);
     let other = code_at(second, j);
@@ -65,8 +75,8 @@ fn next_in(first: &[u8], i: usize, second: &[u8], j: usize) -> Next
             code: one,
             first: value_at(first, i),
             second: value_at(second, j),
-            i: i + RECORD_SIZE,
-            j: j + RECORD_SIZE,
+            i: behind(first, i),
+            j: behind(second, j),
         };
     }
     if one < other {
@@ -74,7 +84,7 @@ fn next_in(first: &[u8], i: usize, second: &[u8], j: usize) -> Next
             code: one,
             first: value_at(first, i),
             second: ABSENT,
-            i: i + RECORD_SIZE,
+            i: behind(first, i),
             j: j,
         };
     }
@@ -83,7 +93,7 @@ fn next_in(first: &[u8], i: usize, second: &[u8], j: usize) -> Next
         first: ABSENT,
         second: value_at(second, j),
         i: i,
-        j: j + RECORD_SIZE,
+        j: behind(second, j),
     }
 }
 
@@ -93,10 +103,10 @@ fn count(first: &[u8], second: &[u8]) -> usize
     requires { ⌜ Accepted (now first) (now second) ⌝ }
     ensures { λ r. ⌜ r ≡ length (listOf (now (first .entry)) (now (second .entry))) ⌝ }
 {
-    let mut i: usize = 0;
-    let mut j: usize = 0;
+    let mut i = Position(0);
+    let mut j = Position(0);
     let mut n: usize = 0;
-    while i < first.len() && j < second.len() {
+    while i.0 < first.len() && j.0 < second.len() {
         let next = next_in(first, i, second, j);
         i = next.i;
         j = next.j;
@@ -104,37 +114,37 @@ fn count(first: &[u8], second: &[u8]) -> usize
             n += 1;
         }
     }
-    n + (first.len() - i) / RECORD_SIZE + (second.len() - j) / RECORD_SIZE
+    n + (first.len() - i.0) / RECORD_SIZE + (second.len() - j.0) / RECORD_SIZE
 }
 
-// Lists each record left in a profile, from an index on, as a difference from one that has ended.
-// Its code and its value stand at its place, and absent for the other's value; the first is at the place given.
-// Returns the place behind the last.
+// Lists each record left in a profile, from a position on, as a difference from a profile that has ended.
+// Its code, its value and absent for the other's value stand at its entry of the arrays: the first at the entry given.
+// Returns the number of the entry behind the last.
 fn list_rest(
     profile: &[u8],
-    from: usize,
+    from: Position,
     codes: &mut [u8],
     values: &mut [u32],
     others: &mut [u32],
-    place: usize,
+    entry: usize,
 ) -> usize
-    requires { ⌜ (from ≤ length (now profile)) × (place + length (settingsFrom (now profile) from) ≤ roomIn (lent (now codes) (now values) (now others))) ⌝ }
-    ensures { λ r. ⌜ r ≡ place + length (settingsFrom (now (profile .entry)) from) ⌝ }
-    ensures { λ r. ⌜ lent (now (codes .exit)) (now (values .exit)) (now (others .exit)) ≡ restIn place (settingsFrom (now (profile .entry)) from) (lent (now (codes .entry)) (now (values .entry)) (now (others .entry))) ⌝ }
+    requires { ⌜ (from .0 ≤ length (now profile)) × (entry + length (settingsFrom (now profile) (from .0)) ≤ roomIn (lent (now codes) (now values) (now others))) ⌝ }
+    ensures { λ r. ⌜ r ≡ entry + length (settingsFrom (now (profile .entry)) (from .0)) ⌝ }
+    ensures { λ r. ⌜ lent (now (codes .exit)) (now (values .exit)) (now (others .exit)) ≡ restIn entry (settingsFrom (now (profile .entry)) (from .0)) (lent (now (codes .entry)) (now (values .entry)) (now (others .entry))) ⌝ }
 {
     let mut at = from;
-    let mut n = place;
-    while RECORD_SIZE <= profile.len() - at {
+    let mut n = entry;
+    while RECORD_SIZE <= profile.len() - at.0 {
         codes[n] = code_at(profile, at);
         values[n] = value_at(profile, at);
         others[n] = ABSENT;
-        at += RECORD_SIZE;
+        at = behind(profile, at);
         n += 1;
     }
     n
 }
 
-// Lists the differences of two accepted profiles, each at its place in an array of codes and two of values.
+// Lists the differences of two accepted profiles, each at its entry of an array of codes and two of values.
 // Returns how many they are.
 fn list(
     first: &[u8],
@@ -147,10 +157,10 @@ fn list(
     ensures { λ r. ⌜ r ≡ length (listOf (now (first .entry)) (now (second .entry))) ⌝ }
     ensures { λ r. ⌜ lent (now (codes .exit)) (now (firsts .exit)) (now (seconds .exit)) ≡ listedIn (listOf (now (first .entry)) (now (second .entry))) (lent (now (codes .entry)) (now (firsts .entry)) (now (seconds .entry))) ⌝ }
 {
-    let mut i: usize = 0;
-    let mut j: usize = 0;
+    let mut i = Position(0);
+    let mut j = Position(0);
     let mut n: usize = 0;
-    while i < first.len() && j < second.len() {
+    while i.0 < first.len() && j.0 < second.len() {
         let next = next_in(first, i, second, j);
         i = next.i;
         j = next.j;
@@ -161,8 +171,8 @@ fn list(
             n += 1;
         }
     }
-    let behind = list_rest(first, i, codes, firsts, seconds, n);
-    list_rest(second, j, codes, seconds, firsts, behind)
+    let after = list_rest(first, i, codes, firsts, seconds, n);
+    list_rest(second, j, codes, seconds, firsts, after)
 }
 
 // Returns a refusal: its number, which profile, and where in it.
@@ -214,7 +224,7 @@ fn list_or_refuse(
 }
 
 // Compares two profiles, and lists the codes that are in one only or whose values differ, rising.
-// Each stands at its place in the codes, with its value of the first profile and of the second in the other two arrays.
+// Each stands at its entry of the codes, with its value of the first profile and of the second in the other two arrays.
 // A profile that does not have the code has the value 65,536 there.
 // Returns how many differences are listed; or 17 with the profile and where its first bad record starts, the first
 // profile before the second; then 1 where an array is too short. A refusal lists nothing.

@@ -1,6 +1,6 @@
 -- The list of differences: its lines, their order and number, and that there is one such list.
 use mathlib.Core.Path.{_≡_, refl, sym, ap, ap₂, subst, _∙_}
-use mathlib.Core.Bool.{Bool, true, false, cond}
+use mathlib.Core.Bool.{Bool, true, false}
 use mathlib.Core.Logic.{_⊎_, inl, inr, ⊎-elim}
 use mathlib.Core.List.{List, [], _∷_}
 use Prim.Native.Nat.{ℕ, zero, suc, _+_, _≤_, _<_}
@@ -10,7 +10,7 @@ use lib.ListN.{length}
 use lib.Dec.{eqb}
 use borrow.Author.Tests.{eqb-true, eqb-false, eq-eqb, ne-eqb}
 use Rattle.profile_form_rules.specs.Form.{Setting}
-use Rattle.profile_form_rules.specs.Statements.{codesOf, Rising, end, more, Stands, here, later}
+use Rattle.profile_form_rules.specs.Statements.{Rising, end, more, Stands, here, later}
 use Rattle.profile_compare_rules.specs.Compare.{valueOf, Difference, differencesFrom, turnedValue}
 use Rattle.profile_compare_rules.specs.Statements.{difference, listedCodes}
 use Rattle.profile_compare_rules.proofs.Values.{stands-some, stands-or}

@@ -1,24 +1,22 @@
 -- Wrong rules, and that the theorems do not hold of them: equal values listed, a value taken from the other profile, a code of
--- the second profile left out, the last code not compared, falling order, the second's 17 before the first's, a refusal that
+-- the second profile left out, a code that is absent taken for one at 0, the last code not compared, falling order, the second's 17 before the first's, a refusal that
 -- does not say which profile, room one short taken, the room of the codes alone, a part of the list where the room is short,
 -- entries past the list cleared; and a turning that keeps what is absent.
-use mathlib.Core.Path.{_≡_, refl, sym, ap, _∙_}
+use mathlib.Core.Path.{_≡_, refl, ap}
 use mathlib.Core.Bool.{Bool, true, cond, _&&_}
 use mathlib.Core.List.{List, [], _∷_, _++_, map}
 use Prim.Native.Nat.{ℕ, zero, suc, _+_, _-_, _<_}
 use native.Mathlib.Omega.{arith}
-use lib.ListN.{length, getD, take, drop, replicate}
+use lib.ListN.{length, getD, replicate}
 use lib.Dec.{leb, eqb}
 use Rattle.checksum.specs.Bytes.{Bytes, none, more}
 use Rattle.records.specs.Records.{beginsWith}
 use Rattle.profile_form_rules.specs.Form.{Setting, settingsIn, settingsOf, bytesOf, recordFits, judgeRecords, judgeForm}
 use Rattle.profile_form_rules.specs.Statements.{recordThen}
-use Rattle.profile_form_rules.specs.declared.Judged.{Judged}
 use Rattle.profile_form_rules.proofs.Theorems as form
 use Rattle.profile_compare_rules.specs.Compare.{absent, valueOf, Difference, differencesFrom, differences, Room, roomIn, listedIn, Outcome, refusedWith, listDifferences, compareAs, compareProfiles, turnedValue, settingsBy}
-use Rattle.profile_compare_rules.specs.Statements.{difference, CompareRule, answered, Compares, SameIsEmpty, EmptyIsSame, TurnRule, Turns, linesIn}
-use Rattle.profile_compare_rules.specs.declared.Compared.{Compared}
-use Rattle.profile_compare_rules.proofs.Theorems.{one-comparison}
+use Rattle.profile_compare_rules.specs.Statements.{difference, CompareRule, answered, Compares, SameIsEmpty, EmptyIsSame, TurnRule, Turns}
+use Rattle.profile_compare_rules.proofs.Theorems.{as-ours}
 
 -- ---- profiles of one setting, and room
 
@@ -77,7 +75,7 @@ otherValue = compareBy (λ a b. map (λ (d : Difference). difference (d .code) (
 pub other-value-refuted : Compares otherValue → ⊥
 unfolding compareProfiles compareAs listDifferences differencesFrom valueOf settingsIn judgeForm judgeRecords recordFits beginsWith
 other-value-refuted h =
-    let o = one-comparison otherValue h (one 0x10 50) (one 0x10 70) (nines 2) (one-bytes 0x10 50 (omega arith) (omega arith)) (one-bytes 0x10 70 (omega arith) (omega arith)) in
+    let o = as-ours otherValue h (one 0x10 50) (one 0x10 70) (nines 2) (one-bytes 0x10 50 (omega arith) (omega arith)) (one-bytes 0x10 70 (omega arith) (omega arith)) in
     let e : _≡_ {A = ℕ} 50 70 = ap (λ (o : Outcome). getD (o .room .second) 0 0) o in
     omega arith
 
@@ -88,7 +86,22 @@ secondOnlyLeftOut = compareBy (λ a b. linesBy (λ c. cond (eqb (valueOf a c) ab
 pub second-only-left-out-refuted : Compares secondOnlyLeftOut → ⊥
 unfolding compareProfiles compareAs listDifferences differencesFrom valueOf settingsIn judgeForm judgeRecords recordFits beginsWith
 second-only-left-out-refuted h =
-    let o = one-comparison secondOnlyLeftOut h [] (one 0x10 70) (nines 2) none (one-bytes 0x10 70 (omega arith) (omega arith)) in
+    let o = as-ours secondOnlyLeftOut h [] (one 0x10 70) (nines 2) none (one-bytes 0x10 70 (omega arith) (omega arith)) in
+    let e : _≡_ {A = ℕ} 0 1 = ap (λ (o : Outcome). o .result .differences) o in
+    omega arith
+
+-- a code that a profile does not have counts as 0
+abbrev zeroIfAbsent : List Setting → ℕ → ℕ
+zeroIfAbsent es c = cond (eqb (valueOf es c) absent) 0 (valueOf es c)
+
+abbrev zeroForAbsent : CompareRule
+zeroForAbsent = compareBy (λ a b. linesBy (λ c. eqb (zeroIfAbsent a c) (zeroIfAbsent b c)) (lineOf a b) 256 0)
+
+-- a code that only the second has, at 0
+pub zero-for-absent-refuted : Compares zeroForAbsent → ⊥
+unfolding compareProfiles compareAs listDifferences differencesFrom valueOf settingsIn judgeForm judgeRecords recordFits beginsWith
+zero-for-absent-refuted h =
+    let o = as-ours zeroForAbsent h [] (one 0x10 0) (nines 2) none (one-bytes 0x10 0 (omega arith) (omega arith)) in
     let e : _≡_ {A = ℕ} 0 1 = ap (λ (o : Outcome). o .result .differences) o in
     omega arith
 
@@ -99,7 +112,7 @@ lastLeftOut = compareBy (λ a b. differencesFrom a b 255 0)
 pub last-left-out-refuted : EmptyIsSame lastLeftOut → ⊥
 unfolding compareAs listDifferences differencesFrom valueOf settingsIn judgeForm judgeRecords recordFits beginsWith
 last-left-out-refuted h =
-    let same = h (one 0xFF 1) (one 0xFF 2) (nines 2) (one-bytes 0xFF 1 (omega arith) (omega arith)) (one-bytes 0xFF 2 (omega arith) (omega arith)) refl in
+    let same = h (one 0xFF 1) (one 0xFF 2) (nines 2) (one-bytes 0xFF 1 (omega arith) (omega arith)) (one-bytes 0xFF 2 (omega arith) (omega arith)) refl refl in
     let e : _≡_ {A = ℕ} 1 2 = ap (λ (s : List ℕ). getD s 5 0) same in
     omega arith
 
@@ -112,7 +125,7 @@ unfolding compareProfiles compareAs listDifferences differencesFrom valueOf sett
 falling-refuted h =
     let t = recordThen 0x10 1 0 (one 0x12 2) in
     let b = record-bytes 0x10 1 (one 0x12 2) (omega arith) (omega arith) (one-bytes 0x12 2 (omega arith) (omega arith)) in
-    let e : _≡_ {A = ℕ} 0x12 0x10 = ap (λ (o : Outcome). getD (o .room .codes) 0 0) (one-comparison falling h [] t (nines 2) none b) in
+    let e : _≡_ {A = ℕ} 0x12 0x10 = ap (λ (o : Outcome). getD (o .room .codes) 0 0) (as-ours falling h [] t (nines 2) none b) in
     omega arith
 
 -- ---- the refusals
@@ -131,7 +144,7 @@ secondFirst s t r = cond (eqb (judgeForm t .answer) 0) (compareProfiles s t r) (
 pub second-first-refuted : Compares secondFirst → ⊥
 unfolding compareProfiles compareAs judgeForm judgeRecords recordFits beginsWith
 second-first-refuted h =
-    let e : _≡_ {A = ℕ} 2 1 = ap (λ (o : Outcome). o .result .profile) (one-comparison secondFirst h cut cut (nines 2) cut-bytes cut-bytes) in
+    let e : _≡_ {A = ℕ} 2 1 = ap (λ (o : Outcome). o .result .profile) (as-ours secondFirst h cut cut (nines 2) cut-bytes cut-bytes) in
     omega arith
 
 -- the answer does not say which profile
@@ -141,7 +154,7 @@ noProfile s t r = let o = compareProfiles s t r in record { result = answered (o
 pub no-profile-refuted : Compares noProfile → ⊥
 unfolding compareProfiles compareAs judgeForm judgeRecords recordFits beginsWith
 no-profile-refuted h =
-    let e : _≡_ {A = ℕ} 0 2 = ap (λ (o : Outcome). o .result .profile) (one-comparison noProfile h [] cut (nines 2) none cut-bytes) in
+    let e : _≡_ {A = ℕ} 0 2 = ap (λ (o : Outcome). o .result .profile) (as-ours noProfile h [] cut (nines 2) none cut-bytes) in
     omega arith
 
 -- ---- the room
@@ -159,7 +172,7 @@ oneShort = listsBy (λ ds r. cond (leb (length ds) (roomIn r + 1)) (accepted ds 
 
 -- one difference, and the room that is lent for it
 one-in : (compare : CompareRule) → Compares compare → (r : Room) → compare [] (one 0x10 70) r ≡ compareProfiles [] (one 0x10 70) r
-one-in compare h r = one-comparison compare h [] (one 0x10 70) r none (one-bytes 0x10 70 (omega arith) (omega arith))
+one-in compare h r = as-ours compare h [] (one 0x10 70) r none (one-bytes 0x10 70 (omega arith) (omega arith))
 
 pub one-short-refuted : Compares oneShort → ⊥
 unfolding compareProfiles compareAs listDifferences differencesFrom valueOf settingsIn judgeForm judgeRecords recordFits beginsWith
@@ -189,7 +202,10 @@ codes-listed-refuted h =
 
 -- the entries past the list become 0
 abbrev restCleared : CompareRule
-restCleared = listsBy (λ ds r. record { result = answered 0 0 (length ds) 0; room = record { codes = map (λ (d : Difference). d .code) ds ++ replicate (length (r .codes) - length ds) 0; first = listedIn ds r .first; second = listedIn ds r .second } })
+restCleared =
+    listsBy (λ ds r. cond (leb (length ds) (roomIn r))
+    (record { result = answered 0 0 (length ds) 0; room = record { codes = map (λ (d : Difference). d .code) ds ++ replicate (length (r .codes) - length ds) 0; first = listedIn ds r .first; second = listedIn ds r .second } })
+    (refusedWith 1 0 0 r))
 
 pub rest-cleared-refuted : Compares restCleared → ⊥
 unfolding compareProfiles compareAs listDifferences differencesFrom valueOf settingsIn judgeForm judgeRecords recordFits beginsWith
@@ -207,5 +223,5 @@ keepsAbsent s ds = bytesOf (settingsBy (keptValue ds (valueOf (settingsOf s))) 2
 pub keeps-absent-refuted : Turns keepsAbsent compareProfiles → ⊥
 unfolding compareProfiles compareAs listDifferences differencesFrom valueOf turnedValue settingsBy bytesOf settingsIn judgeForm judgeRecords recordFits beginsWith
 keeps-absent-refuted h =
-    let e : _≡_ {A = ℕ} 7 0 = ap length (h (one 0x10 50) [] (nines 2) (one-bytes 0x10 50 (omega arith) (omega arith)) none refl) in
+    let e : _≡_ {A = ℕ} 7 0 = ap length (h (one 0x10 50) [] (nines 2) none refl) in
     omega arith

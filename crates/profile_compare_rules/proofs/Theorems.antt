@@ -2,22 +2,20 @@
 use mathlib.Core.Path.{_≡_, refl, sym, ap, ap₂, subst, _∙_}
 use mathlib.Core.Bool.{Bool, true, false, cond}
 use mathlib.Core.List.{List, [], _∷_, _++_, map}
-use Prim.Native.Nat.{ℕ, zero, suc, _+_, _≤_, _<_, min}
+use Prim.Native.Nat.{ℕ, zero, suc, _+_, _≤_, _<_}
 use native.Mathlib.Omega.{arith}
-use lib.ListN.{length, getD, drop, length-map}
+use lib.ListN.{length, take, drop, length-map}
+use lib.Seq.{take-all}
 use lib.Dec.{leb, eqb}
-use borrow.Author.Tests.{leb-true, leb-false, le-leb, lt-leb, eqb-true, eqb-false, ne-eqb}
+use borrow.Author.Tests.{leb-true, leb-false, le-leb, eqb-true, eqb-false}
 use Rattle.buffers.specs.Buffers.{over}
 use Rattle.checksum.specs.Bytes.{Bytes}
 use Rattle.codes.specs.Codes.{allCodes}
 use Rattle.profile_form_rules.specs.Form.{Setting, settingsOf, bytesOf, judgeForm}
 use Rattle.profile_form_rules.specs.Statements.{codesOf, Rising, Stands, IsProfile, RefusedAt}
-use Rattle.profile_form_rules.specs.declared.Judged.{Judged}
 use Rattle.profile_form_rules.proofs.Theorems as form
-use Rattle.profile_compare_rules.specs.Compare.{absent, valueOf, Difference, differencesFrom, differences, Room, roomIn, listedIn, Outcome, refusedWith, listDifferences, compareAs, compareProfiles, turnedValue, settingsBy, turned}
-use Rattle.profile_compare_rules.specs.Statements.{Shows, difference, Exactly, listedCodes, firstValues, secondValues, IsList, SomeList, OneList, answered, Fits, CompareRule, Compares, SameIsEmpty, EmptyIsSame, linesIn, linesOf, Turns, RoomEnough}
-use Rattle.profile_compare_rules.specs.Statements as says
-use Rattle.profile_compare_rules.specs.declared.Compared.{Compared}
+use Rattle.profile_compare_rules.specs.Compare.{absent, valueOf, Difference, differencesFrom, differences, Room, roomIn, listedIn, Outcome, refusedWith, listDifferences, compareAs, compareProfiles, turnedValue, turned}
+use Rattle.profile_compare_rules.specs.Statements.{Shows, difference, listedCodes, firstValues, secondValues, IsList, OneList, answered, Fits, CompareRule, Compares, SameIsEmpty, EmptyIsSame, linesIn, linesOf, Turns, RoomEnough, OneComparison, LongCompared}
 use Rattle.profile_compare_rules.proofs.Values.{stands-some, shows, shown-value, value-code, Small, records-small, by-values}
 use Rattle.profile_compare_rules.proofs.Differences as lines
 
@@ -186,11 +184,11 @@ unlisted a b e d h = go (eqb (valueOf a d) (valueOf b d)) refl
     go false q = absurd (omega (arith, stands-some (lines.lines-every a b allCodes 0 d (omega arith) (omega arith) (eqb-false _ _ q))))
 
 pub empty-is-same : EmptyIsSame compareProfiles
-empty-is-same s t r p q e =
-    let x = accepted-has s t r (ap (λ (c : Compared). c .answer) e) in
+empty-is-same s t r p q done e =
+    let x = accepted-has s t r done in
     let a = settingsOf s in
     let b = settingsOf t in
-    let n : length (differences a b) ≡ 0 = sym (ap (λ (o : Outcome). o .result .differences) (accepted-gives s t r x)) ∙ ap (λ (c : Compared). c .differences) e in
+    let n : length (differences a b) ≡ 0 = sym (ap (λ (o : Outcome). o .result .differences) (accepted-gives s t r x)) ∙ e in
     sym (form.read-and-written .bytes a s p (x .first))
     ∙ ap bytesOf (agreeing a b (proper a s p (x .first)) (proper b t q (x .second)) (unlisted a b n))
     ∙ form.read-and-written .bytes b t q (x .second)
@@ -206,7 +204,7 @@ pub lines-listed : (s t : List ℕ) (r : Room) → Accepted s t r → linesOf (c
 lines-listed s t r x = ap linesOf (accepted-gives s t r x) ∙ lines-read (differences (settingsOf s) (settingsOf t)) _ _ _
 
 pub turns : Turns turned compareProfiles
-turns s t r p q e =
+turns s t r q e =
     let x = accepted-has s t r e in
     let a = settingsOf s in
     let b = settingsOf t in
@@ -219,7 +217,7 @@ turns s t r p q e =
 
 pub room-enough : RoomEnough compareProfiles
 unfolding listDifferences
-room-enough a b s t r p q i j k l m =
+room-enough a b s t r i j k l m =
     let few = lines.lines-few a b allCodes 0 in
     let fits : length (differences a b) ≤ roomIn r = omega arith in
     ap (λ (o : Outcome). o .result .answer) (compare-accepted a b s t r i j) ∙ rw (le-leb (length (differences a b)) (roomIn r) fits)
@@ -227,8 +225,8 @@ room-enough a b s t r p q i j k l m =
 -- ---- no other comparison
 
 -- of a rule that compares so, the answer and the arrays are ours, whatever the bytes
-pub one-comparison : (compare : CompareRule) → Compares compare → (s t : List ℕ) (r : Room) → Bytes s → Bytes t → compare s t r ≡ compareProfiles s t r
-one-comparison compare h s t r p q = go (eqb (judgeForm s .answer) 0) (eqb (judgeForm t .answer) 0) (leb (length ds) (roomIn r)) refl refl refl
+pub as-ours : (compare : CompareRule) → Compares compare → (s t : List ℕ) (r : Room) → Bytes s → Bytes t → compare s t r ≡ compareProfiles s t r
+as-ours compare h s t r p q = go (eqb (judgeForm s .answer) 0) (eqb (judgeForm t .answer) 0) (leb (length ds) (roomIn r)) refl refl refl
   where
     a : List Setting
     a = settingsOf s
@@ -259,3 +257,21 @@ one-comparison compare h s t r p q = go (eqb (judgeForm s .answer) 0) (eqb (judg
         let l : roomIn r < length ds = leb-false _ _ g in
         let m : Fits ds r → ⊥ = λ x. omega (arith, x .codes, x .first, x .second) in
         h .short a b s t ds r p q i j w m ∙ sym (compares .short a b s t ds r p q i j w m)
+
+pub one-comparison : OneComparison
+one-comparison one other h k s t r p q = as-ours one h s t r p q ∙ sym (as-ours other k s t r p q)
+
+-- ---- long inputs
+
+-- an accepted profile is not cut
+uncut : (s : List ℕ) → Bytes s → judgeForm s .answer ≡ 0 → take 1793 s ≡ s
+uncut s b e = let few = form.at-most-256 (settingsOf s) s b (form.accepted-profile s e) in take-all 1793 s (omega (arith, few .1))
+
+pub long-compared : LongCompared compareProfiles
+unfolding compareProfiles compareAs
+long-compared s t r p q = go (eqb (judgeForm s .answer) 0) (eqb (judgeForm t .answer) 0) refl refl
+  where
+    go : (x y : Bool) → eqb (judgeForm s .answer) 0 ≡ x → eqb (judgeForm t .answer) 0 ≡ y → compareProfiles (take 1793 s) (take 1793 t) r ≡ compareProfiles s t r
+    go true true e f = ap₂ (λ (u v : List ℕ). compareProfiles u v r) (uncut s p (eqb-true _ _ e)) (uncut t q (eqb-true _ _ f))
+    go true false e f = rw (form.long-cut s p, form.long-cut t q, e, f)
+    go false y e f = rw (form.long-cut s p, e)

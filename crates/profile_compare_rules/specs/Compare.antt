@@ -17,7 +17,7 @@ use Rattle.profile_compare_rules.specs.declared.Compared.{Compared}
 abbrev pub absent : ℕ
 absent = 65536
 
--- the value that settings have for a code
+-- the value that settings have for a code, or absent
 unfoldable pub valueOf : List Setting → (code : ℕ) → ℕ
 valueOf [] code = absent
 valueOf (e ∷ es) code = cond (eqb (e .code) code) (e .value) (valueOf es code)
@@ -83,8 +83,11 @@ abbrev pub outcome : Compared → Room → Outcome
 outcome result room = record { result = result; room = room }
 
 -- "nothing is listed"
+abbrev pub refusal : (answer profile position : ℕ) → Compared
+refusal answer profile position = record { answer = answer; profile = profile; differences = 0; position = record { 0 = position } }
+
 abbrev pub refusedWith : (answer profile position : ℕ) → Room → Outcome
-refusedWith answer profile position r = record { result = record { answer = answer; profile = profile; differences = 0; position = record { 0 = position } }; room = r }
+refusedWith answer profile position r = outcome (refusal answer profile position) r
 
 -- "then 1 if the lent room is too small"
 unfoldable pub listDifferences : List Difference → Room → Outcome

@@ -1,9 +1,9 @@
 -- Document 02, K4, on comparing two profiles, sentence by sentence, in the paper's own numbers. A statement takes the rule as a
 -- parameter: proofs/ proves it of Compare.antt's, and refutes it of wrong ones.
-use Prim.Native.Nat.{ℕ, zero, suc, _≤_, _<_}
+use Prim.Native.Nat.{ℕ, zero, suc, _≤_}
 use mathlib.Core.Path.{_≡_}
 use mathlib.Core.List.{List, [], _∷_, _++_, map}
-use lib.ListN.{length, getD, drop}
+use lib.ListN.{length, getD, take, drop}
 use Rattle.checksum.specs.Bytes.{Bytes}
 use Rattle.profile_form_rules.specs.Form.{Setting}
 use Rattle.profile_form_rules.specs.Statements.{Stands, Rising, IsProfile, RefusedAt}
@@ -90,7 +90,7 @@ abbrev pub SameIsEmpty : CompareRule → Type 0
 SameIsEmpty compare = (a : List Setting) (s : List ℕ) (r : Room) → IsProfile a s → compare s s r ≡ record { result = answered 0 0 0 0; room = r }
 
 abbrev pub EmptyIsSame : CompareRule → Type 0
-EmptyIsSame compare = (s t : List ℕ) (r : Room) → Bytes s → Bytes t → compare s t r .result ≡ answered 0 0 0 0 → s ≡ t
+EmptyIsSame compare = (s t : List ℕ) (r : Room) → Bytes s → Bytes t → compare s t r .result .answer ≡ 0 → compare s t r .result .differences ≡ 0 → s ≡ t
 
 -- ---- "Turning the first sheet into the second by the listed differences gives its exact bytes."
 
@@ -107,11 +107,21 @@ abbrev pub TurnRule : Type 0
 TurnRule = List ℕ → List Difference → List ℕ
 
 abbrev pub Turns : TurnRule → CompareRule → Type 0
-Turns turn compare = (s t : List ℕ) (r : Room) → Bytes s → Bytes t → compare s t r .result .answer ≡ 0 → turn s (linesOf (compare s t r)) ≡ t
+Turns turn compare = (s t : List ℕ) (r : Room) → Bytes t → compare s t r .result .answer ≡ 0 → turn s (linesOf (compare s t r)) ≡ t
 
 -- ---- "It has room for 256 codes."
 
 -- so much room is never too small
 abbrev pub RoomEnough : CompareRule → Type 0
-RoomEnough compare = (a b : List Setting) (s t : List ℕ) (r : Room) → Bytes s → Bytes t → IsProfile a s → IsProfile b t
+RoomEnough compare = (a b : List Setting) (s t : List ℕ) (r : Room) → IsProfile a s → IsProfile b t
     → 256 ≤ length (r .codes) → 256 ≤ length (r .first) → 256 ≤ length (r .second) → compare s t r .result .answer ≡ 0
+
+-- ---- these sentences leave no choice
+
+-- two rules that compare so answer alike of all bytes, and leave the same arrays
+abbrev pub OneComparison : Type 0
+OneComparison = (one other : CompareRule) → Compares one → Compares other → (s t : List ℕ) (r : Room) → Bytes s → Bytes t → one s t r ≡ other s t r
+
+-- whoever reads 1,793 bytes of longer inputs compares them as if all were read
+abbrev pub LongCompared : CompareRule → Type 0
+LongCompared compare = (s t : List ℕ) (r : Room) → Bytes s → Bytes t → compare (take 1793 s) (take 1793 t) r ≡ compare s t r

@@ -16,21 +16,21 @@ ghost use lib.ListN.{length, drop};
 ghost use Rattle.profile_form_rules.specs.Records.{codeIn};
 ghost use Rattle.profile_form_rules.specs.Form.{recordFits, judgeForm};
 
-// Returns the code of the record at an index.
-fn code_of(profile: &[u8], at: usize) -> u16
-    requires { ⌜ at ≤ length (now profile) ⌝ }
-    ensures { λ r. ⌜ (r ≡ codeIn (drop at (now (profile .entry)))) × (r < 256) ⌝ }
+// Returns the code of the record at a position.
+fn code_of(profile: &[u8], at: Position) -> u16
+    requires { ⌜ at .0 ≤ length (now profile) ⌝ }
+    ensures { λ r. ⌜ (r ≡ codeIn (drop (at .0) (now (profile .entry)))) × (r < 256) ⌝ }
 {
-    let i = at + CODE_AT;
+    let i = at.0 + CODE_AT;
     wide16(byte_at(profile, Position(i)))
 }
 
-// Returns whether a record of kind 1 stands at an index, with a code that is not below the lowest one that may come.
-fn record_fits(profile: &[u8], at: usize, lowest: u16) -> bool
-    requires { ⌜ at ≤ length (now profile) ⌝ }
-    ensures { λ r. ⌜ r ≡ recordFits lowest (drop at (now (profile .entry))) ⌝ }
+// Returns whether a record of kind 1 stands at a position, with a code that is not below the lowest one that may come.
+fn record_fits(profile: &[u8], at: Position, lowest: u16) -> bool
+    requires { ⌜ at .0 ≤ length (now profile) ⌝ }
+    ensures { λ r. ⌜ r ≡ recordFits lowest (drop (at .0) (now (profile .entry))) ⌝ }
 {
-    if stands(profile, Position(at), RECORD_LENGTH, VALUE_KIND) {
+    if stands(profile, at, RECORD_LENGTH, VALUE_KIND) {
         return lowest <= code_of(profile, at);
     }
     false
@@ -41,21 +41,22 @@ fn record_fits(profile: &[u8], at: usize, lowest: u16) -> bool
 pub fn judge(profile: &[u8]) -> Judged
     ensures { λ r. ⌜ r ≡ judgeForm (now (profile .entry)) ⌝ }
 {
-    let mut at: usize = 0;
+    let mut at = Position(0);
     let mut lowest: u16 = 0;
-    while at < profile.len() {
+    while at.0 < profile.len() {
         if record_fits(profile, at, lowest) {
             lowest = code_of(profile, at) + 1;
-            at += RECORD_SIZE;
+            let behind = at.0 + RECORD_SIZE;
+            at = Position(behind);
         } else {
             return Judged {
                 answer: BROKEN_RECORD,
-                position: Position(at),
+                position: at,
             };
         }
     }
     Judged {
         answer: DONE,
-        position: Position(at),
+        position: at,
     }
 }

@@ -2,18 +2,18 @@
 use mathlib.Core.Path.{_≡_, refl, sym, ap, subst, _∙_}
 use mathlib.Core.Bool.{Bool, true, false, cond, _&&_}
 use mathlib.Core.List.{List, [], _∷_}
-use Prim.Native.Nat.{ℕ, zero, suc, _+_, _-_, _*_, _/_, _≤_, _<_}
+use Prim.Native.Nat.{ℕ, zero, suc, _+_, _*_, _≤_, _<_}
 use native.Mathlib.Omega.{arith}
-use lib.ListN.{length, getD, drop, length-drop}
+use lib.ListN.{length, getD, drop}
 use lib.Dec.{leb}
 use borrow.Author.Tests.{leb-true, leb-false, le-leb, lt-leb}
 use Rattle.message_rules.specs.Answer.{done, brokenRecord}
 use Rattle.profile_form_rules.specs.Records.{recordSize, codeIn, beginsWithRecord}
 use Rattle.profile_form_rules.specs.Form.{Setting, recordFits, judgeRecords, begunIn}
-use Rattle.profile_form_rules.specs.Statements.{recordThen, settingIn, Records, none, one, Rising, codesOf, end, more, Bad, broken, notAbove}
+use Rattle.profile_form_rules.specs.Statements.{recordThen, settingSaid, Records, none, one, Rising, codesOf, end, more, Bad, broken, notAbove}
 use Rattle.profile_form_rules.specs.declared.Judged.{Judged}
-use Rattle.profile_form_rules.proofs.Records.{begun, begins-with, begins-none, whole}
-use Rattle.profile_form_rules.proofs.Profiles.{lowestAfter, NotAbove, stands-below, below-stands}
+use Rattle.profile_form_rules.proofs.Records.{begun, begins-with, begins-none}
+use Rattle.profile_form_rules.proofs.Profiles.{lowestAfter, stands-below, below-stands}
 
 abbrev pub acceptedAt : ℕ → Judged
 acceptedAt at = record { answer = done; position = record { 0 = at } }
@@ -91,10 +91,10 @@ walk-more : (lowest at code l h : ℕ) (rest : List ℕ) (j : Judged) → lowest
 unfolding lowestAfter
 walk-more lowest at code l h rest j le (all es r i) =
     let f : at + 7 + 7 * length es ≡ at + 7 * suc (length es) = omega arith in
-    subst (λ (n : ℕ). Walked lowest at (recordThen code l h rest) (acceptedAt n)) (sym f) (all (settingIn code l h ∷ es) (one r) (more le i))
+    subst (λ (n : ℕ). Walked lowest at (recordThen code l h rest) (acceptedAt n)) (sym f) (all (settingSaid code l h ∷ es) (one r) (more le i))
 walk-more lowest at code l h rest j le (first es bytes r i z u) =
     let f : at + 7 + 7 * length es ≡ at + 7 * suc (length es) = omega arith in
-    subst (λ (n : ℕ). Walked lowest at (recordThen code l h rest) (refusedAt n)) (sym f) (first (settingIn code l h ∷ es) bytes (one r) (more le i) z u)
+    subst (λ (n : ℕ). Walked lowest at (recordThen code l h rest) (refusedAt n)) (sym f) (first (settingSaid code l h ∷ es) bytes (one r) (more le i) z u)
 
 pub walked : (n lowest at : ℕ) (s : List ℕ) → n ≡ begunIn (length s) → Walked lowest at s (judgeRecords n lowest at s)
 unfolding judgeRecords lowestAfter

@@ -1,19 +1,17 @@
 -- Records and rising codes: the settings that they say, their size, and the lowest code that may come next.
-use mathlib.Core.Path.{_≡_, refl, sym, ap, ap₂, _∙_}
+use mathlib.Core.Path.{_≡_, refl, ap, ap₂, subst}
 use mathlib.Core.Bool.{Bool, true, false}
 use mathlib.Core.List.{List, [], _∷_, _++_}
-use Prim.Native.Nat.{ℕ, zero, suc, _+_, _*_, _/_, _%_, _≤_, _<_}
+use Prim.Native.Nat.{ℕ, suc, _+_, _*_, _/_, _%_, _≤_, _<_}
 use native.Mathlib.Omega.{arith}
 use lib.ListN.{length}
 use lib.Dec.{leb}
 use borrow.Author.Tests.{leb-true, leb-false}
 use Rattle.checksum.specs.Bytes.{Bytes}
 use Rattle.checksum.proofs.Bytes.{bytes-at, bytes-drop}
-use Rattle.records.specs.Numbers.{littleEndian}
-use Rattle.records.proofs.Numbers.{low-first}
-use Rattle.profile_form_rules.specs.Records.{valueRecord, recordSize}
+use Rattle.records.proofs.Numbers.{low-first, low-high}
 use Rattle.profile_form_rules.specs.Form.{Setting, settingsIn, bytesOf}
-use Rattle.profile_form_rules.specs.Statements.{recordThen, settingIn, Records, none, one, Rising, codesOf, end, more, Stands, here, later}
+use Rattle.profile_form_rules.specs.Statements.{settingSaid, Records, none, one, Rising, codesOf, end, more, Stands, here, later}
 
 -- ---- the records
 
@@ -35,6 +33,15 @@ records-written behind [] s b none = refl
 records-written behind (e ∷ es) s b (one {code} {low} {high} {rest = rest} r) =
     let value = low-first .two low high (bytes-at b 5) in
     ap₂ (λ (v t : List ℕ). 0x05 ∷ 0x00 ∷ 0x01 ∷ 0x00 ∷ code ∷ (v ++ t)) value (records-written behind es rest (bytes-drop 7 b) r)
+
+-- whatever the settings, what is written of them is their records
+pub written-records : (es : List Setting) → Records [] es (bytesOf es)
+unfolding bytesOf
+written-records [] = none
+written-records (e ∷ es) =
+    let v = e .value in
+    let value : settingSaid (e .code) (v % 256) (v / 256) ≡ e = ap (λ (n : ℕ). record { code = e .code; value = n }) (low-high v) in
+    subst (λ (f : Setting). Records [] (f ∷ es) (bytesOf (e ∷ es))) value (one {code = e .code} {low = v % 256} {high = v / 256} (written-records es))
 
 -- ---- the lowest code that may come next
 

@@ -1,15 +1,16 @@
--- Wrong rules, and that the theorems do not hold of them: a code may stand twice, codes in any order, a kind that nothing
--- looks at, a cut record passed over, a place behind the record, F4 or the empty profile refused, a value without its high
+-- Wrong rules, and that the theorems do not hold of them: a code may stand twice, codes in any order, a kind or a length that
+-- nothing looks at, a cut record passed over, a place behind the record, F4 or the empty profile refused, a value without its high
 -- byte.
 use mathlib.Core.Path.{_≡_, refl, sym, ap, _∙_}
-use mathlib.Core.Bool.{Bool, cond, _&&_}
+use mathlib.Core.Bool.{Bool, cond, not, _&&_}
 use mathlib.Core.List.{List, [], _∷_, map}
-use Prim.Native.Nat.{ℕ, zero, suc, _+_, _*_, _/_, _%_, _≤_}
+use Prim.Native.Nat.{ℕ, zero, suc, _+_, _/_, _%_}
 use native.Mathlib.Omega.{arith}
-use lib.ListN.{length, getD, drop}
+use lib.ListN.{length, drop}
 use lib.Dec.{leb, eqb}
+use Rattle.records.specs.Numbers.{wordAt}
 use Rattle.records.specs.Records.{beginsWith}
-use Rattle.profile_form_rules.specs.Records.{recordLength, valueKind, recordSize, codeIn, beginsWithRecord}
+use Rattle.profile_form_rules.specs.Records.{recordSize, codeIn}
 use Rattle.profile_form_rules.specs.Form.{Setting, settingsIn, settingsOf, bytesOf, recordFits, judgeRecords, begunIn, judgeForm}
 use Rattle.profile_form_rules.specs.Statements.{recordThen, JudgeRule, ReadRule, AcceptsExactly, FirstRefused, ReadAndWritten}
 use Rattle.profile_form_rules.specs.declared.Judged.{Judged}
@@ -61,12 +62,21 @@ any-order-refuted h = let e : _≡_ {A = ℕ} 0 17 = same-answer anyOrder h (set
 
 -- the kind is not looked at
 abbrev noKind : JudgeRule
-noKind = by (λ lowest bytes. leb 7 (length bytes) && (eqb (getD bytes 0 0) 5 && leb lowest (codeIn bytes))) suc
+noKind = by (λ lowest bytes. leb 7 (length bytes) && (eqb (wordAt bytes 0) 5 && leb lowest (codeIn bytes))) suc
 
 -- a record of kind 2
 pub no-kind-refuted : FirstRefused noKind → ⊥
 unfolding judgeForm judgeRecords recordFits beginsWith
 no-kind-refuted h = let e : _≡_ {A = ℕ} 0 17 = same-answer noKind h (0x05 ∷ 0x00 ∷ 0x02 ∷ 0x00 ∷ 0x10 ∷ 50 ∷ 0 ∷ []) refl in omega arith
+
+-- the length is not looked at
+abbrev noLength : JudgeRule
+noLength = by (λ lowest bytes. leb 7 (length bytes) && (eqb (wordAt bytes 2) 1 && leb lowest (codeIn bytes))) suc
+
+-- a record of length 6
+pub no-length-refuted : FirstRefused noLength → ⊥
+unfolding judgeForm judgeRecords recordFits beginsWith
+no-length-refuted h = let e : _≡_ {A = ℕ} 0 17 = same-answer noLength h (0x06 ∷ 0x00 ∷ 0x01 ∷ 0x00 ∷ 0x10 ∷ 50 ∷ 0 ∷ []) refl in omega arith
 
 -- bytes that are too few for a record are passed over
 abbrev restIgnored : JudgeRule
@@ -88,7 +98,7 @@ behind-it-refuted h =
 
 -- the table's code F4 is not to stand in a profile
 abbrev withoutTable : JudgeRule
-withoutTable = by (λ lowest bytes. recordFits lowest bytes && cond (eqb (codeIn bytes) 0xF4) (leb 1 0) (leb 0 1)) suc
+withoutTable = by (λ lowest bytes. recordFits lowest bytes && not (eqb (codeIn bytes) 0xF4)) suc
 
 pub without-table-refuted : AcceptsExactly withoutTable → ⊥
 unfolding judgeForm judgeRecords recordFits beginsWith

@@ -1,17 +1,17 @@
 -- The theorems of specs/Statements.antt.
 use mathlib.Core.Path.{_≡_, refl, sym, ap, subst, _∙_}
 use mathlib.Core.List.{List, [], _∷_, _++_, append-nil}
-use Prim.Native.Nat.{ℕ, zero, suc, _+_, _-_, _*_, _/_, _≤_, _<_}
+use Prim.Native.Nat.{ℕ, zero, suc, _+_, _-_, _*_, _/_, _<_}
 use native.Mathlib.Omega.{arith}
 use lib.ListN.{length, take, drop, take-append-drop}
 use lib.Seq.{take-all}
 use Rattle.checksum.specs.Bytes.{Bytes}
 use Rattle.profile_form_rules.specs.Records.{recordSize}
 use Rattle.profile_form_rules.specs.Form.{Setting, settingsIn, settingsOf, bytesOf, judgeRecords, begunIn, judgeForm}
-use Rattle.profile_form_rules.specs.Statements.{recordThen, Records, none, one, Rising, codesOf, end, more, IsProfile, SomeProfile, AcceptsExactly, OnlySettings, ReadAndWritten, Bad, broken, notAbove, RefusedAt, FirstRefused, AtMost256, LongCut}
+use Rattle.profile_form_rules.specs.Statements.{recordThen, Records, none, one, IsProfile, SomeProfile, AcceptsExactly, OnlySettings, ReadAndWritten, Bad, broken, notAbove, RefusedAt, FirstRefused, AtMost256, LongCut}
 use Rattle.profile_form_rules.specs.declared.Judged.{Judged}
-use Rattle.profile_form_rules.proofs.Profiles.{records-size, records-read, records-written, lowestAfter, rising-fits}
-use Rattle.profile_form_rules.proofs.Judging.{acceptedAt, refusedAt, Unfit, unfit, bad-unfit, unfit-bad, passes, Walked, all, first, walked}
+use Rattle.profile_form_rules.proofs.Profiles.{records-size, records-read, records-written, written-records, lowestAfter, rising-fits}
+use Rattle.profile_form_rules.proofs.Judging.{acceptedAt, refusedAt, unfit, bad-unfit, unfit-bad, passes, Walked, all, first, walked}
 
 -- ---- what is accepted
 
@@ -45,7 +45,11 @@ settings-read es s p =
     ap (λ (k : ℕ). settingsIn k s) n ∙ records-read [] es s (p .whole)
 
 pub read-and-written : ReadAndWritten settingsOf bytesOf
-read-and-written = record { settings = settings-read; bytes = λ es s b p. sym (append-nil (bytesOf es)) ∙ records-written [] es s b (p .whole) }
+read-and-written = record {
+  settings = settings-read;
+  bytes = λ es s b p. sym (append-nil (bytesOf es)) ∙ records-written [] es s b (p .whole);
+  every = λ es r. record { whole = written-records es; rising = r };
+}
 
 pub only-settings : OnlySettings
 only-settings es fs s p q = sym (settings-read es s p) ∙ settings-read fs s q

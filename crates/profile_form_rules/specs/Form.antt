@@ -21,7 +21,7 @@ unfoldable pub settingsIn : (n : ℕ) → List ℕ → List Setting
 settingsIn zero bytes = []
 settingsIn (suc n) bytes = record { code = codeIn bytes; value = valueIn bytes } ∷ settingsIn n (drop recordSize bytes)
 
--- those of all whole records
+-- those of a profile: it has so many records
 abbrev pub settingsOf : List ℕ → List Setting
 settingsOf s = settingsIn (length s / recordSize) s
 
@@ -37,8 +37,8 @@ bytesOf (e ∷ es) = valueRecord (e .code) (e .value) ++ bytesOf es
 unfoldable pub recordFits : (lowest : ℕ) → List ℕ → Bool
 recordFits lowest bytes = beginsWithRecord bytes && leb lowest (codeIn bytes)
 
--- "else 17 at the record's start": of n records, where the bytes left start at position `at`. Behind a record its code is
--- too low. After answer 0 the position is the end of the profile.
+-- "else 17 at the record's start": of n records, where the bytes left start at position `at`. The lowest code that may come
+-- after a record is one above its own. After answer 0 the position is the end of the profile.
 unfoldable pub judgeRecords : (n lowest at : ℕ) → List ℕ → Judged
 judgeRecords zero lowest at bytes = record { answer = done; position = record { 0 = at } }
 judgeRecords (suc n) lowest at bytes =

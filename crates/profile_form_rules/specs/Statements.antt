@@ -16,14 +16,14 @@ abbrev pub recordThen : (code low high : ℕ) → List ℕ → List ℕ
 recordThen code low high rest = 0x05 ∷ 0x00 ∷ 0x01 ∷ 0x00 ∷ code ∷ low ∷ high ∷ rest
 
 -- what it says
-abbrev pub settingIn : (code low high : ℕ) → Setting
-settingIn code low high = record { code = code; value = low + high * 256 }
+abbrev pub settingSaid : (code low high : ℕ) → Setting
+settingSaid code low high = record { code = code; value = low + high * 256 }
 
 -- the bytes s are the records of these settings, in this order, and the bytes behind them
 pub data Records (behind : List ℕ) : List Setting → (s : List ℕ) → Type 0 where
   none : Records behind [] behind
   one : {code low high : ℕ} {es : List Setting} {rest : List ℕ}
-      → Records behind es rest → Records behind (settingIn code low high ∷ es) (recordThen code low high rest)
+      → Records behind es rest → Records behind (settingSaid code low high ∷ es) (recordThen code low high rest)
 
 abbrev pub codesOf : List Setting → List ℕ
 codesOf es = map (λ (e : Setting). e .code) es
@@ -74,6 +74,8 @@ WriteRule = List Setting → List ℕ
 pub record ReadAndWritten (read : ReadRule) (write : WriteRule) : Type 0 where
   pub settings : (es : List Setting) (s : List ℕ) → IsProfile es s → read s ≡ es
   pub bytes : (es : List Setting) (s : List ℕ) → Bytes s → IsProfile es s → write es ≡ s
+  -- and every rising row of settings has a profile, which is what is written of it
+  pub every : (es : List Setting) → Rising 0 (codesOf es) → IsProfile es (write es)
 
 -- ---- what is refused
 

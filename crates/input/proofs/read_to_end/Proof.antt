@@ -1,7 +1,6 @@
 -- `read_to_end` is safe and ends: each turn leaves less room.
 use mathlib.Core.Path.{_≡_}
 use Prim.Native.Nat.{_-_, _≤_}
-use native.Mathlib.Omega.{arith}
 use lib.ListN.{length}
 use borrow.Author.Needs.{needs}
 use Rattle.input.proofs.read_to_end.Statement.{statement}

@@ -12,7 +12,7 @@ shared-slice-read-result : tie.Need-shared-slice-read-result
 shared-slice-read-result c = omega arith
 
 returns : tie.Need-returns
-returns c = let given = c .before .args in code-there (given .profile .now) (given .at) _ refl
+returns c = let given = c .before .before .args in code-there (given .profile .now) (given .at .0) _ refl
 
 pub code-at-spec : {M : Type 1} → statement M
 code-at-spec = tie.close (tie.spec add-result shared-slice-read-result returns)

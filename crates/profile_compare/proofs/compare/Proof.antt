@@ -1,5 +1,5 @@
 -- `compare` judges the first profile, then the second, and lists the differences of accepted ones.
-use mathlib.Core.Path.{_≡_, sym, ap, _∙_}
+use mathlib.Core.Path.{sym, ap, _∙_}
 use borrow.Author.Needs.{needs}
 use Rattle.profile_form_rules.specs.declared.Judged.{Judged}
 use Rattle.profile_compare_rules.specs.Compare.{lent}

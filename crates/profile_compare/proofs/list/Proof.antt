@@ -2,10 +2,9 @@
 -- still to come, are the whole list. The measure: the bytes left in both.
 use mathlib.Core.Path.{_≡_, refl, ap, _∙_}
 use mathlib.Core.Logic.{_⊎_, inl, inr, ⊎-elim}
-use Prim.Native.Nat.{ℕ, _+_, _-_, _≤_, _<_}
+use Prim.Native.Nat.{_+_, _-_, _≤_, _<_}
 use native.Mathlib.Omega.{arith}
 use lib.ListN.{length}
-use borrow.Author.Needs.{needs}
 use borrow.Author.Tests.{ltb-true, ltb-false}
 use Rattle.checksum.proofs.Bytes.{bytes-of}
 use Rattle.profile_form_rules.specs.Form.{Setting}
@@ -17,10 +16,10 @@ use Rattle.profile_compare.proofs.list.Statement.{statement}
 use Rattle.profile_compare.proofs.list.Tie as tie
 
 abbrev Inv-loop : tie.InvT-loop
-Inv-loop first second codes₀ firsts₀ seconds₀ i₀ j₀ n₀ codes firsts seconds i j n = Listing first second codes₀ firsts₀ seconds₀ codes firsts seconds i j n
+Inv-loop first second codes₀ firsts₀ seconds₀ i₀ j₀ n₀ codes firsts seconds i j n = Listing first second codes₀ firsts₀ seconds₀ codes firsts seconds (i .0) (j .0) n
 
 abbrev μ-loop : tie.MeasureT-loop
-μ-loop first second codes₀ firsts₀ seconds₀ i₀ j₀ n₀ codes firsts seconds i j n = (length first - i) + (length second - j)
+μ-loop first second codes₀ firsts₀ seconds₀ i₀ j₀ n₀ codes firsts seconds i j n = (length first - i .0) + (length second - j .0)
 
 loop-holds : tie.Need-loop-holds Inv-loop μ-loop
 loop-holds c =
@@ -33,59 +32,61 @@ loop-holds c =
 
 -- ---- while both have a record left
 
-both : (c : tie.Then1 Inv-loop μ-loop) → let turn = c .before .before in let given = turn .before .before .before .before .before .before in
-    (turn .loop .i < length (given .args .first .now)) × (turn .loop .j < length (given .args .second .now))
-both c = (c .before .loop-test .taken, ltb-true _ _ (c .if1 .taken))
+both : (c : tie.Then2 Inv-loop μ-loop) → let turn = c .before .before .before .before in let given = turn .before .before .before .before .before .before in
+    (turn .loop .i .0 < length (given .args .first .now)) × (turn .loop .j .0 < length (given .args .second .now))
+both c = (c .before .before .if1 .taken, ltb-true _ _ (c .if2 .taken))
 
 next-in-requires : tie.Need-next-in-requires Inv-loop μ-loop
-next-in-requires c κs = let l = c .before .before .loop in walk-room _ _ (l .i) (l .j) (l .inv .rest) (l .inv .so-far .walk) (both c .0) (both c .1)
+next-in-requires c κs = let l = c .before .before .before .before .loop in walk-room _ _ (l .i .0) (l .j .0) (l .inv .rest) (l .inv .so-far .walk) (both c .0) (both c .1)
 
 -- what comes next is a difference: it is the next line
-next : (c : tie.Then2 Inv-loop μ-loop) → let read = c .before .before in let turn = read .before .before .before in let given = turn .before .before .before .before .before .before in
+next : (c : tie.Then3 Inv-loop μ-loop) → let read = c .before .before .before .before in let turn = read .before .before .before .before .before in
+    let given = turn .before .before .before .before .before .before in
     Listed (given .args .first .now) (given .args .second .now) (turn .loop .n) (turn .loop .inv .rest) (read .next-in .result)
 next c =
-    let read = c .before .before in
-    let l = read .before .before .before .loop in
-    counted-next _ _ (l .i) (l .j) (l .n) (l .inv .rest) (l .inv .so-far) (both (read .before) .0) (both (read .before) .1) _ (read .next-in .ensures) (c .if2 .taken)
+    let read = c .before .before .before .before in
+    let l = read .before .before .before .before .before .loop in
+    counted-next _ _ (l .i .0) (l .j .0) (l .n) (l .inv .rest) (l .inv .so-far) (both (read .before) .0) (both (read .before) .1) _ (read .next-in .ensures) (c .if3 .taken)
 
--- its place is one that all arrays have
-room : (c : tie.Then2 Inv-loop μ-loop) → let turn = c .before .before .before .before .before in let given = turn .before .before .before .before .before .before in
+-- its entry is one that all arrays have
+room : (c : tie.Then3 Inv-loop μ-loop) → let turn = c .before .before .before .before .before .before .before .before .before in
+    let given = turn .before .before .before .before .before .before in
     turn .loop .n < length (listOf (given .args .first .now) (given .args .second .now))
-room c = let k = c .before .before .before .before .before .loop .inv .so-far .counted in let d = ap length (next c .is) in omega arith
+room c = let k = c .before .before .before .before .before .before .before .before .before .loop .inv .so-far .counted in let d = ap length (next c .is) in omega arith
 
 slice-write-codes : tie.Need-slice-write-codes Inv-loop μ-loop
 slice-write-codes c =
-    let turn = c .before .before .before .before .before in
+    let turn = c .before .before .before .before .before .before .before .before .before in
     omega (arith, room c, turn .before .before .before .before .before .before .pre .1, turn .loop .inv .codes-in .size)
 
 mul-firsts : tie.Need-mul-firsts Inv-loop μ-loop
-mul-firsts c = let l = c .before .before .before .before .before .loop in omega (arith, counted-few _ _ (l .i) (l .j) (l .n) (l .inv .rest) (l .inv .so-far))
+mul-firsts c = let l = c .before .before .before .before .before .before .before .before .before .loop in omega (arith, counted-few _ _ (l .i .0) (l .j .0) (l .n) (l .inv .rest) (l .inv .so-far))
 
 slice-write-firsts : tie.Need-slice-write-firsts Inv-loop μ-loop
 slice-write-firsts c =
-    let turn = c .before .before .before .before .before in
+    let turn = c .before .before .before .before .before .before .before .before .before in
     omega (arith, room c, turn .before .before .before .before .before .before .pre .1, turn .loop .inv .firsts-in .size)
 
 mul-seconds : tie.Need-mul-seconds Inv-loop μ-loop
-mul-seconds c = let l = c .before .before .before .before .before .loop in omega (arith, counted-few _ _ (l .i) (l .j) (l .n) (l .inv .rest) (l .inv .so-far))
+mul-seconds c = let l = c .before .before .before .before .before .before .before .before .before .loop in omega (arith, counted-few _ _ (l .i .0) (l .j .0) (l .n) (l .inv .rest) (l .inv .so-far))
 
 slice-write-seconds : tie.Need-slice-write-seconds Inv-loop μ-loop
 slice-write-seconds c =
-    let turn = c .before .before .before .before .before in
+    let turn = c .before .before .before .before .before .before .before .before .before in
     omega (arith, room c, turn .before .before .before .before .before .before .pre .1, turn .loop .inv .seconds-in .size)
 
 add-n : tie.Need-add-n Inv-loop μ-loop
-add-n c = let l = c .before .before .before .before .before .loop in omega (arith, counted-few _ _ (l .i) (l .j) (l .n) (l .inv .rest) (l .inv .so-far))
+add-n c = let l = c .before .before .before .before .before .before .before .before .before .loop in omega (arith, counted-few _ _ (l .i .0) (l .j .0) (l .n) (l .inv .rest) (l .inv .so-far))
 
 loop-less : tie.Need-loop-less Inv-loop μ-loop
 loop-less c =
-    let read = c .before .before in
-    let l = read .before .before .before .loop in
-    walk-less _ _ (l .i) (l .j) (l .inv .rest) (l .inv .so-far .walk) (both (read .before) .0) (both (read .before) .1) _ (read .next-in .ensures)
+    let read = c .before .before .before .before in
+    let l = read .before .before .before .before .before .loop in
+    walk-less _ _ (l .i .0) (l .j .0) (l .inv .rest) (l .inv .so-far .walk) (both (read .before) .0) (both (read .before) .1) _ (read .next-in .ensures)
 
 loop-again : tie.Need-loop-again Inv-loop μ-loop
 loop-again c =
-    let turn = c .before .before .before .before .before in
+    let turn = c .before .before .before .before .before .before .before .before .before in
     let l = turn .loop in
     let k = l .inv in
     let x = next c in
@@ -101,18 +102,18 @@ loop-again c =
 
 loop-less-2 : tie.Need-loop-less-2 Inv-loop μ-loop
 loop-less-2 c =
-    let read = c .before .before in
-    let l = read .before .before .before .loop in
-    walk-less _ _ (l .i) (l .j) (l .inv .rest) (l .inv .so-far .walk) (both (read .before) .0) (both (read .before) .1) _ (read .next-in .ensures)
+    let read = c .before .before .before .before in
+    let l = read .before .before .before .before .before .loop in
+    walk-less _ _ (l .i .0) (l .j .0) (l .inv .rest) (l .inv .so-far .walk) (both (read .before) .0) (both (read .before) .1) _ (read .next-in .ensures)
 
 loop-again-2 : tie.Need-loop-again-2 Inv-loop μ-loop
 loop-again-2 c =
-    let read = c .before .before in
-    let l = read .before .before .before .loop in
+    let read = c .before .before .before .before in
+    let l = read .before .before .before .before .before .loop in
     let k = l .inv in
     record {
       rest = k .rest;
-      so-far = counted-same _ _ (l .i) (l .j) (l .n) (k .rest) (k .so-far) (both (read .before) .0) (both (read .before) .1) _ (read .next-in .ensures) (c .if2 .left);
+      so-far = counted-same _ _ (l .i .0) (l .j .0) (l .n) (k .rest) (k .so-far) (both (read .before) .0) (both (read .before) .1) _ (read .next-in .ensures) (c .if3 .left);
       codes-in = k .codes-in;
       firsts-in = k .firsts-in;
       seconds-in = k .seconds-in;
@@ -120,20 +121,20 @@ loop-again-2 c =
 
 -- ---- where one has ended
 
-ended : (c : tie.Left-loop Inv-loop μ-loop) → let turn = c .before in let given = turn .before .before .before .before .before .before in
-    (length (given .args .first .now) ≤ turn .loop .i) ⊎ (length (given .args .second .now) ≤ turn .loop .j)
-ended c = ⊎-elim (λ w. inr (ltb-false _ _ (w .1 .left))) (λ w. inl (w .left)) (c .loop-test .came)
+ended : (c : tie.Joined1 Inv-loop μ-loop) → let turn = c .before .before in let given = turn .before .before .before .before .before .before in
+    (length (given .args .first .now) ≤ turn .loop .i .0) ⊎ (length (given .args .second .now) ≤ turn .loop .j .0)
+ended c = ⊎-elim (λ w. inr (ltb-false _ _ (w .2 .left))) (λ w. inl (w .left)) (c .if1 .came)
 
 -- the records left are all that are to come
-all : (c : tie.Left-loop Inv-loop μ-loop) → let turn = c .before in let given = turn .before .before .before .before .before .before in let l = turn .loop in
+all : (c : tie.Joined1 Inv-loop μ-loop) → let turn = c .before .before in let given = turn .before .before .before .before .before .before in let l = turn .loop in
     let s = given .args .first .now in let t = given .args .second .now in
-    l .n + length (settingsFrom s (l .i)) + length (settingsFrom t (l .j)) ≡ length (listOf s t)
-all c = let l = c .before .loop in counted-all _ _ (l .i) (l .j) (l .n) (l .inv .rest) (l .inv .so-far) (ended c)
+    l .n + length (settingsFrom s (l .i .0)) + length (settingsFrom t (l .j .0)) ≡ length (listOf s t)
+all c = let l = c .before .before .loop in counted-all _ _ (l .i .0) (l .j .0) (l .n) (l .inv .rest) (l .inv .so-far) (ended c)
 
 list-rest-requires : tie.Need-list-rest-requires Inv-loop μ-loop
 list-rest-requires c κs =
     let over = c .before .before .before in
-    let turn = over .before in
+    let turn = over .before .before in
     let k = turn .loop .inv in
     (k .so-far .walk .first .inside, omega (arith, all over, turn .before .before .before .before .before .before .pre .1, k .codes-in .size, k .firsts-in .size, k .seconds-in .size))
 
@@ -141,7 +142,7 @@ list-rest-requires-2 : tie.Need-list-rest-requires-2 Inv-loop μ-loop
 list-rest-requires-2 c κs =
     let one = c .before .before .before .before .before .before .before .before .before in
     let over = one .before .before .before .before in
-    let turn = over .before in
+    let turn = over .before .before in
     let k = turn .loop .inv in
     (k .so-far .walk .second .inside, omega (arith, all over, one .list-rest .ensures .0, one .list-rest .kept, turn .before .before .before .before .before .before .pre .1, k .codes-in .size, k .firsts-in .size, k .seconds-in .size))
 
@@ -149,26 +150,26 @@ same-length : tie.Need-same-length Inv-loop μ-loop
 same-length c =
     let two = c .before .before .before .before .before .before in
     let one = two .before .before .before .before .before .before .before .before .before .before in
-    two .list-rest2 .kept .1 .1 .0 ∙ one .list-rest .kept .1 .1 .0 ∙ one .before .before .before .before .before .loop .inv .codes-in .size
+    two .list-rest2 .kept .1 .1 .0 ∙ one .list-rest .kept .1 .1 .0 ∙ one .before .before .before .before .before .before .loop .inv .codes-in .size
 
 same-length-2 : tie.Need-same-length-2 Inv-loop μ-loop
 same-length-2 c =
     let two = c .before .before .before .before .before .before in
     let one = two .before .before .before .before .before .before .before .before .before .before in
-    two .list-rest2 .kept .1 .1 .1 .1 .0 ∙ one .list-rest .kept .1 .1 .1 .0 ∙ one .before .before .before .before .before .loop .inv .firsts-in .size
+    two .list-rest2 .kept .1 .1 .1 .1 .0 ∙ one .list-rest .kept .1 .1 .1 .0 ∙ one .before .before .before .before .before .before .loop .inv .firsts-in .size
 
 same-length-3 : tie.Need-same-length-3 Inv-loop μ-loop
 same-length-3 c =
     let two = c .before .before .before .before .before .before in
     let one = two .before .before .before .before .before .before .before .before .before .before in
-    two .list-rest2 .kept .1 .1 .1 .0 ∙ one .list-rest .kept .1 .1 .1 .1 .0 ∙ one .before .before .before .before .before .loop .inv .seconds-in .size
+    two .list-rest2 .kept .1 .1 .1 .0 ∙ one .list-rest .kept .1 .1 .1 .1 .0 ∙ one .before .before .before .before .before .before .loop .inv .seconds-in .size
 
 returns : tie.Need-returns Inv-loop μ-loop
 returns c =
     let two = c .before .before .before .before .before .before in
     let one = two .before .before .before .before .before .before .before .before .before .before in
     let over = one .before .before .before .before in
-    let turn = over .before in
+    let turn = over .before .before in
     let given = turn .before .before .before .before .before .before in
     let l = turn .loop in
     let k = l .inv in
@@ -178,11 +179,11 @@ returns c =
     let behind = one .list-rest .ensures .0 in
     let x = one .list-rest .ensures .1 in
     let y = two .list-rest2 .ensures .1 in
-    let codes = rest-put s t (l .i) (l .j) (l .n) (k .rest) (λ (d : Difference). d .code) (λ (e : Setting). e .code) (λ (e : Setting). e .code) _ (given .args .codes .now) (l .codes) (k .so-far) (ended over)
+    let codes = rest-put s t (l .i .0) (l .j .0) (l .n) (k .rest) (λ (d : Difference). d .code) (λ (e : Setting). e .code) (λ (e : Setting). e .code) _ (given .args .codes .now) (l .codes) (k .so-far) (ended over)
     (λ e. refl) (λ e. refl) (k .codes-in) (omega arith) _ _ _ (ap (λ (r : Room). r .codes) x) behind (ap (λ (r : Room). r .codes) y) in
-    let firsts = rest-put s t (l .i) (l .j) (l .n) (k .rest) (λ (d : Difference). d .first) (λ (e : Setting). e .value) (λ (e : Setting). absent) _ (given .args .firsts .now) (l .firsts) (k .so-far) (ended over)
+    let firsts = rest-put s t (l .i .0) (l .j .0) (l .n) (k .rest) (λ (d : Difference). d .first) (λ (e : Setting). e .value) (λ (e : Setting). absent) _ (given .args .firsts .now) (l .firsts) (k .so-far) (ended over)
     (λ e. refl) (λ e. refl) (k .firsts-in) (omega arith) _ _ _ (ap (λ (r : Room). r .first) x) behind (ap (λ (r : Room). r .second) y) in
-    let seconds = rest-put s t (l .i) (l .j) (l .n) (k .rest) (λ (d : Difference). d .second) (λ (e : Setting). absent) (λ (e : Setting). e .value) _ (given .args .seconds .now) (l .seconds) (k .so-far) (ended over)
+    let seconds = rest-put s t (l .i .0) (l .j .0) (l .n) (k .rest) (λ (d : Difference). d .second) (λ (e : Setting). absent) (λ (e : Setting). e .value) _ (given .args .seconds .now) (l .seconds) (k .so-far) (ended over)
     (λ e. refl) (λ e. refl) (k .seconds-in) (omega arith) _ _ _ (ap (λ (r : Room). r .second) x) behind (ap (λ (r : Room). r .first) y) in
     (omega (arith, two .list-rest2 .ensures .0, behind, all over), cc (codes, firsts, seconds))
 

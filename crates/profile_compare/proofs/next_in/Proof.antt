@@ -16,43 +16,48 @@ value-at-requires c κs = search needs
 value-at-requires-2 : tie.Need-value-at-requires-2
 value-at-requires-2 c κs = search needs
 
-add-t10 : tie.Need-add-t10
-add-t10 c = search needs
+behind-requires : tie.Need-behind-requires
+behind-requires c κs = search needs
 
-add-t11 : tie.Need-add-t11
-add-t11 c = search needs
+behind-requires-2 : tie.Need-behind-requires-2
+behind-requires-2 c κs = search needs
 
 returns : tie.Need-returns
 returns c =
-    let same = c .before .before in
+    let values = c .before .before in
+    let same = values .before .before in
     let codes = same .before in
     let given = codes .before .before .before .before .args in
-    next-both (given .first .now) (given .i) (given .second .now) (given .j) _ _ _ _ (codes .before .code-at .ensures) (codes .code-at2 .ensures) (same .if1 .taken)
-    (c .before .value-at .ensures) (c .value-at2 .ensures)
+    next-both (given .first .now) (given .i .0) (given .second .now) (given .j .0) _ _ _ _ _ _ (codes .before .code-at .ensures) (codes .code-at2 .ensures) (same .if1 .taken)
+    (values .before .value-at .ensures) (values .value-at2 .ensures) (c .before .behind .ensures) (c .behind2 .ensures)
 
 value-at-requires-3 : tie.Need-value-at-requires-3
 value-at-requires-3 c κs = search needs
 
-add-t13 : tie.Need-add-t13
-add-t13 c = search needs
+behind-requires-3 : tie.Need-behind-requires-3
+behind-requires-3 c κs = search needs
 
 returns-2 : tie.Need-returns-2
 returns-2 c =
-    let codes = c .before .before .before in
+    let value = c .before in
+    let codes = value .before .before .before in
     let given = codes .before .before .before .before .args in
-    next-first (given .first .now) (given .i) (given .second .now) (given .j) _ _ _ 0 (codes .before .code-at .ensures) (codes .code-at2 .ensures) (c .before .if2 .taken) (c .value-at3 .ensures)
+    next-first (given .first .now) (given .i .0) (given .second .now) (given .j .0) _ _ _ 0 _ 0 (codes .before .code-at .ensures) (codes .code-at2 .ensures) (value .before .if2 .taken)
+    (value .value-at3 .ensures) (c .behind3 .ensures)
 
 value-at-requires-4 : tie.Need-value-at-requires-4
 value-at-requires-4 c κs = search needs
 
-add-t15 : tie.Need-add-t15
-add-t15 c = search needs
+behind-requires-4 : tie.Need-behind-requires-4
+behind-requires-4 c κs = search needs
 
 returns-3 : tie.Need-returns-3
 returns-3 c =
-    let codes = c .before .before .before in
+    let value = c .before in
+    let codes = value .before .before .before in
     let given = codes .before .before .before .before .args in
-    next-second (given .first .now) (given .i) (given .second .now) (given .j) _ _ 0 _ (codes .before .code-at .ensures) (codes .code-at2 .ensures) (c .before .before .if1 .left) (c .before .if2 .left) (c .value-at4 .ensures)
+    next-second (given .first .now) (given .i .0) (given .second .now) (given .j .0) _ _ 0 _ 0 _ (codes .before .code-at .ensures) (codes .code-at2 .ensures)
+    (value .before .before .if1 .left) (value .before .if2 .left) (value .value-at4 .ensures) (c .behind4 .ensures)
 
 pub next-in-spec : {M : Type 1} → statement M
 next-in-spec =
@@ -62,12 +67,12 @@ next-in-spec =
     code-at-requires-2
     value-at-requires
     value-at-requires-2
-    add-t10
-    add-t11
+    behind-requires
+    behind-requires-2
     returns
     value-at-requires-3
-    add-t13
+    behind-requires-3
     returns-2
     value-at-requires-4
-    add-t15
+    behind-requires-4
     returns-3)

@@ -17,8 +17,8 @@ wide16-requires c κs = search needs
 returns : tie.Need-returns
 returns c =
     let read = c .before in
-    let given = read .before .before .args in
-    (code-there (given .profile .now) (given .at) _ (c .wide16 .ensures .0 ∙ read .byte-at .ensures), c .wide16 .ensures .1)
+    let given = read .before .before .before .args in
+    (code-there (given .profile .now) (given .at .0) _ (c .wide16 .ensures .0 ∙ read .byte-at .ensures), c .wide16 .ensures .1)
 
 pub code-of-spec : {M : Type 1} → statement M
 code-of-spec = tie.close (tie.spec add-i byte-at-requires wide16-requires returns)

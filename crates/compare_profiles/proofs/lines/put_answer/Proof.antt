@@ -1,10 +1,8 @@
 -- `put_answer` puts the lines of an accepted comparison, or the line of a refusal.
-use mathlib.Core.Path.{_≡_, refl}
 use Prim.Native.Nat.{ℕ}
 use native.Mathlib.Omega.{arith}
 use lib.ListN.{length-replicate}
 use Rattle.checksum.proofs.Bytes.{bytes-of}
-use Rattle.profile_compare_rules.specs.Compare.{lent}
 use Rattle.compare_profiles.specs.Lines.{refusedLine}
 use Rattle.compare_profiles.proofs.Answers.{answer-few, first-values, second-values, answer-written, refused-written}
 use borrow.Author.Needs.{needs}

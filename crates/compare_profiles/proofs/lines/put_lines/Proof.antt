@@ -4,7 +4,6 @@ use mathlib.Core.Path.{_≡_, refl, subst, _∙_}
 use Prim.Native.Nat.{ℕ, _-_, _≤_}
 use native.Mathlib.Omega.{arith}
 use lib.ListN.{length}
-use borrow.Author.Needs.{needs}
 use Rattle.profile_compare_rules.specs.Statements.{linesIn}
 use Rattle.compare_profiles.specs.Lines.{Lines}
 use Rattle.compare_profiles.proofs.Laws.{SoFar, none-so-far, line-length, line-so-far}

@@ -1,5 +1,5 @@
 -- `put_value` puts "-", or the digits, of which there are at most five.
-use mathlib.Core.Path.{_≡_, refl, ap, _∙_}
+use mathlib.Core.Path.{refl, ap, _∙_}
 use mathlib.Core.List.{[], _∷_}
 use Prim.Native.Nat.{ℕ, _+_, _≤_, _<_}
 use native.Mathlib.Omega.{arith}
@@ -8,7 +8,7 @@ use lib.ListN.{length}
 use borrow.Author.Needs.{needs}
 use Rattle.buffers.proofs.Puts.{put-fits}
 use Rattle.numerals.proofs.Places.{places-at-most}
-use Rattle.compare_profiles.specs.Lines.{Value, number, absent}
+use Rattle.compare_profiles.specs.Lines.{number, absent}
 use Rattle.compare_profiles.specs.Parts.{valueRoom}
 use Rattle.compare_profiles.proofs.lines.put_value.Statement.{statement}
 use Rattle.compare_profiles.proofs.lines.put_value.Tie as tie

@@ -1,12 +1,12 @@
 /* Paneknoll: a verified implementation of both ends of VESA DDC/CI 1.1, for a host.
  *
- * Link target/staticlib/libddcci.a, which is built for x86-64 Linux; it needs nothing else.
+ * Link target/staticlib/libddcci.a, which is built for x86-64 Linux; it needs memset.
  *
  * Every function is proved, for all inputs, to be safe, to end and to answer as the papers say: document
  * 01, and document 02 for call lists and compared profiles. None allocates. Each answer is a number of `enum
- * ddcci_answer`, and ddcci_answer_text says what it means (ddcci_common.h). A refusal writes nothing. The
- * slices of one call must not overlap: a Table write that was built from data standing in its own output had
- * a wrong checksum. */
+ * ddcci_answer`, and ddcci_answer_text says what it means (ddcci_common.h). A refusal writes nothing. A slice
+ * that is written must not overlap another one of the call: a Table write that was built from data standing
+ * in its own output had a wrong checksum. */
 #ifndef PANEKNOLL_DDCCI_H
 #define PANEKNOLL_DDCCI_H
 
@@ -38,6 +38,10 @@ extern "C" {
  * profile does not have: no value is 65,536. */
 #define DDCCI_MOST_DIFFERENCES 256
 #define DDCCI_ABSENT 65536u
+
+/* The room to read a profile from a file: one byte more than the 1,792 of a record for each code. Read into
+ * less, a longer file that is cut behind a record could be taken for a profile. */
+#define DDCCI_PROFILE_ROOM 1793
 
 /* What a builder answers: an answer number, and the length of the message or 0. */
 typedef struct {

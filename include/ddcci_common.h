@@ -116,7 +116,7 @@ DDCCI_INLINE const char *ddcci_answer_text(int answer) {
     case DDCCI_ANSWER_TRANSFER_CLOSED:
         return "the transfer is closed: begin another";
     case DDCCI_ANSWER_BROKEN_RECORD:
-        return "the profile or call list is broken here, or the profile's codes do not rise: do not use it";
+        return "the profile or call list is broken here: do not use it";
     case DDCCI_ANSWER_NOT_DECLARABLE:
         return "the declaration, timing, fragment size or budget is not allowed";
     case DDCCI_ANSWER_REPEATED_TOKEN:

@@ -12,7 +12,8 @@ pub const TABLE_ROOM: usize = 1024;
 /// The most settings of one call of [`Display::set_all`].
 pub const MOST_SETTINGS: usize = 64;
 
-/// The bytes of the longest profile: 7 for each code but F4.
+/// The bytes of the longest profile that a display writes: 7 for each code but F4. To read any profile from a file, see
+/// [`PROFILE_ROOM`](crate::PROFILE_ROOM).
 pub const LONGEST_PROFILE: usize = 1785;
 
 /// The timing that a display reports.

@@ -22,6 +22,9 @@ pub use call_list::{CallList, Entry, LONGEST_CALL_LIST, MOST_ENTRIES};
 pub use capabilities::{read_capabilities_into, Capabilities, Node, Nodes, MOST_NODES};
 pub use display::{Asked, Declaration, Display, Step, Timing, LONGEST_PROFILE, MOST_SETTINGS, TABLE_ROOM};
 pub use message::{checksum, Message, Reply, Request, MOST_FRAGMENT, MOST_WRITTEN, OUTPUT_ROOM};
-pub use profiles::{compare_profiles, Difference, DifferenceRoom, Differences, RefusedProfile, MOST_DIFFERENCES};
+pub use profiles::{
+    compare_profiles, Difference, DifferenceRoom, Differences, DifferencesIter, RefusedProfile, MOST_DIFFERENCES,
+    PROFILE_ROOM,
+};
 pub use refusal::{Answer, Refusal, RefusedAt};
 pub use transfer::{State, TextKind, Transfer, Unfinished};

@@ -1,11 +1,17 @@
 //! Two profiles compared.
 use core::fmt;
+use core::iter::FusedIterator;
+use core::ops::Range;
 
 use crate::raw;
 use crate::refusal::RefusedAt;
 
 /// The most differences of two profiles: one for each code.
 pub const MOST_DIFFERENCES: usize = 256;
+
+/// The room to read a profile from a file: one byte more than the 1,792 of a record for each code. Read into less, a
+/// longer file that is cut behind a record could be taken for a profile.
+pub const PROFILE_ROOM: usize = 1793;
 
 /// Three buffers that the differences of two profiles are listed in, one entry a difference.
 ///
@@ -81,9 +87,61 @@ impl<'a> Differences<'a> {
     }
 
     /// Returns all differences, by rising codes.
-    pub fn iter(&self) -> impl DoubleEndedIterator<Item = Difference> + ExactSizeIterator + 'a {
-        let room = self.room;
-        (0..self.count).map(move |at| room.difference(at))
+    pub fn iter(&self) -> DifferencesIter<'a> {
+        DifferencesIter { room: self.room, left: 0..self.count }
+    }
+}
+
+/// The differences of two profiles one after the other, by rising codes.
+#[derive(Clone)]
+pub struct DifferencesIter<'a> {
+    room: &'a DifferenceRoom,
+    left: Range<usize>,
+}
+
+impl Iterator for DifferencesIter<'_> {
+    type Item = Difference;
+
+    fn next(&mut self) -> Option<Difference> {
+        self.left.next().map(|at| self.room.difference(at))
+    }
+
+    fn size_hint(&self) -> (usize, Option<usize>) {
+        self.left.size_hint()
+    }
+}
+
+impl DoubleEndedIterator for DifferencesIter<'_> {
+    fn next_back(&mut self) -> Option<Difference> {
+        self.left.next_back().map(|at| self.room.difference(at))
+    }
+}
+
+impl ExactSizeIterator for DifferencesIter<'_> {}
+
+impl FusedIterator for DifferencesIter<'_> {}
+
+impl fmt::Debug for DifferencesIter<'_> {
+    fn fmt(&self, f: &mut fmt::Formatter<'_>) -> fmt::Result {
+        f.debug_list().entries(self.clone()).finish()
+    }
+}
+
+impl<'a> IntoIterator for Differences<'a> {
+    type Item = Difference;
+    type IntoIter = DifferencesIter<'a>;
+
+    fn into_iter(self) -> DifferencesIter<'a> {
+        self.iter()
+    }
+}
+
+impl<'a> IntoIterator for &Differences<'a> {
+    type Item = Difference;
+    type IntoIter = DifferencesIter<'a>;
+
+    fn into_iter(self) -> DifferencesIter<'a> {
+        self.iter()
     }
 }
 
@@ -103,14 +161,23 @@ impl fmt::Debug for Differences<'_> {
 
 /// Why two profiles were not compared: which of them is refused, and where.
 ///
-/// The refusal is 17, and the position where the record starts that is cut, has another length or kind, or has a code
-/// that is not above the one before it.
+/// The refusal is 17, and the position is where the record starts that is cut, has another length or kind, or has a
+/// code that is not above the one before it.
 #[derive(Debug, Clone, Copy, PartialEq, Eq)]
 pub enum RefusedProfile {
-    /// The first profile is refused. The second was not looked at.
+    /// The first profile is refused, whatever the second is.
     First(RefusedAt),
     /// The second profile is refused.
     Second(RefusedAt),
+}
+
+impl RefusedProfile {
+    /// Returns the refusal with its position, of whichever profile it is.
+    pub fn refused(&self) -> RefusedAt {
+        match *self {
+            RefusedProfile::First(refused) | RefusedProfile::Second(refused) => refused,
+        }
+    }
 }
 
 impl fmt::Display for RefusedProfile {
@@ -149,18 +216,21 @@ impl From<RefusedProfile> for std::io::Error {
 /// let mut room = DifferenceRoom::default();
 /// let changed = compare_profiles(&evening, &morning, &mut room)?;
 /// assert_eq!(changed.iter().next(), Some(Difference { code: 0x10, first: Some(50), second: Some(70) }));
-/// let lines: Vec<String> = changed.iter().map(|difference| difference.to_string()).collect();
-/// assert_eq!(lines, ["10 50 70", "12 80 -", "60 - 15"]);
+/// let mut lines = String::new();
+/// for difference in changed {
+///     lines += &format!("{difference}\n");
+/// }
+/// assert_eq!(lines, "10 50 70\n12 80 -\n60 - 15\n");
 ///
 /// assert!(compare_profiles(&evening, &evening, &mut room)?.is_empty());
 ///
 /// morning[11] = 0x10; // brightness again: the codes do not rise
 /// let refused = compare_profiles(&evening, &morning, &mut room).unwrap_err();
-/// assert!(matches!(refused, RefusedProfile::Second(at) if at.position == 7));
+/// assert!(matches!(refused, RefusedProfile::Second(_)));
+/// assert_eq!(refused.refused().position, 7);
 /// assert_eq!(
 ///     refused.to_string(),
-///     "the second profile: refused 17 at 7: \
-///      the profile or call list is broken here, or the profile's codes do not rise: do not use it"
+///     "the second profile: refused 17 at 7: the profile or call list is broken here: do not use it"
 /// );
 /// # Ok::<(), ddcci::RefusedProfile>(())
 /// ```

@@ -68,7 +68,7 @@ refusals! {
     TransferClosed = 16, "the transfer is closed: begin another";
     /// A record of a profile or of a call list is broken, or of a profile missing, too many or, where two are compared,
     /// not rising.
-    BrokenRecord = 17, "the profile or call list is broken here, or the profile's codes do not rise: do not use it";
+    BrokenRecord = 17, "the profile or call list is broken here: do not use it";
     /// A declaration, timing, fragment size or budget is not allowed.
     NotDeclarable = 18, "the declaration, timing, fragment size or budget is not allowed";
     /// A token stands twice in a call list.

@@ -24,7 +24,7 @@ profiles: 3 differences
   12 80 -
   60 - 15
 profiles: 0 differences
-profile 2: refused 17 at 7, the profile or call list is broken here, or the profile's codes do not rise: do not use it
+profile 2: refused 17 at 7, the profile or call list is broken here: do not use it
 ";
 
 const DISPLAY_WRITES: &str = "\

@@ -267,10 +267,7 @@ fn entries_of_a_refused_list() {
 fn a_refusal_says_what_is_wrong() {
     for (list, says) in [
         (vec![0; 1025], "refused 11 at 0: the text is too long for its room (a call list has at most 1,024 bytes)"),
-        (
-            good_list(2)[..23].to_vec(),
-            "refused 17 at 12: the profile or call list is broken here, or the profile's codes do not rise: do not use it",
-        ),
+        (good_list(2)[..23].to_vec(), "refused 17 at 12: the profile or call list is broken here: do not use it"),
         (
             [record(1, 2), record(1, 3)].concat(),
             "refused 19 at 12: a token stands twice in the call list: call nobody by it",

@@ -437,7 +437,7 @@ fn the_room_is_used_again() {
 fn a_refusal_says_which_profile_and_what_is_wrong() {
     let (good, twice) = (profile_of([(1, 1)]), profile_of([(1, 1), (1, 1)]));
     let mut room = DifferenceRoom::default();
-    let why = "the profile or call list is broken here, or the profile's codes do not rise: do not use it";
+    let why = "the profile or call list is broken here: do not use it";
     let first = compare_profiles(&twice[..13], &twice, &mut room).unwrap_err();
     assert_eq!(first, RefusedProfile::First(RefusedAt { refusal: Refusal::BrokenRecord, position: 7 }));
     assert_eq!(first.to_string(), format!("the first profile: refused 17 at 7: {why}"));

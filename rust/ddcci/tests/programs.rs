@@ -226,7 +226,10 @@ impl Folder {
         spawn(move || {
             let mut to = File::options().write(true).open(to).unwrap();
             for piece in bytes.chunks(most) {
-                to.write_all(piece).expect("it reads");
+                // Who has read enough closes the pipe.
+                if to.write_all(piece).is_err() {
+                    return;
+                }
                 sleep(Duration::from_millis(2));
             }
         });
@@ -256,7 +259,7 @@ fn lines(text: impl Into<String>) -> (String, String) {
     (text.into(), String::new())
 }
 
-/// "A refused program writes only one line with the number, as `refused 17`."
+/// "A refused program .. writes only one line with the number, as `refused 17`."
 fn refused_17() -> (String, String) {
     lines("refused 17\n")
 }

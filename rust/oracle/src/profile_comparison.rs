@@ -1,7 +1,7 @@
 //! Comparing two profiles ("settings sheets"), document 02's K4.
 //!
-//! "We want a compare tool over two settings sheets: exactly the codes that are
-//! in one only or whose value differs, in rising order, with both values."
+//! "We want a compare tool over two settings sheets ..: exactly the codes that
+//! are in one only or whose value differs, in rising order, with both values."
 
 use crate::answer;
 use crate::profile::RECORD_LEN;

@@ -3,22 +3,25 @@ use mathlib.Core.Path.{_≡_, refl, sym, ap, ap₂, subst, _∙_}
 use mathlib.Core.List.{List, [], _∷_, _++_, map}
 use Prim.Native.Nat.{ℕ, zero, suc, _≤_}
 use native.Mathlib.Omega.{arith}
-use lib.ListN.{length}
+use lib.ListN.{length, take}
+use lib.Seq.{take-all}
 use lib.Dec.{eqb}
 use borrow.Author.Tests.{eqb-true, eqb-false}
 use mathlib.Core.Bool.{Bool, true, false}
 use Rattle.checksum.specs.Bytes.{Bytes}
+use Rattle.checksum.proofs.Bytes.{bytes-take}
 use Rattle.codes.specs.Codes.{allCodes}
 use Rattle.profile_form_rules.specs.Form.{Setting, settingsOf}
-use Rattle.profile_form_rules.specs.Statements.{IsProfile, Stands, here, later}
-use Rattle.profile_form_rules.proofs.Theorems.{read-and-written}
+use Rattle.profile_form_rules.specs.Statements.{IsProfile, SomeProfile, Stands, here, later}
+use Rattle.profile_form_rules.specs.declared.Judged.{Judged}
+use Rattle.profile_form_rules.proofs.Theorems.{accepts-exactly, read-and-written, at-most-256, long-cut}
 use Rattle.profile_compare_rules.specs.Compare.{absent, valueOf, Difference, differences, Room, lent, listedIn, Outcome, outcome, compareProfiles}
 use Rattle.profile_compare_rules.specs.Statements.{IsList, linesIn, linesOf}
 use Rattle.profile_compare_rules.specs.declared.Compared.{Compared}
 use Rattle.profile_compare_rules.proofs.Values.{Small, nil, cons, value-here, value-later, records-small}
 use Rattle.profile_compare_rules.proofs.Differences.{lines-said, lines-few}
 use Rattle.profile_compare_rules.proofs.Theorems.{Accepted, accepted-has, accepted-gives, lines-listed, room-enough, one-list, proper, is-list}
-use Rattle.compare_profiles.specs.Lines.{Lines, refusedLine, Written}
+use Rattle.compare_profiles.specs.Lines.{Lines, refusedLine, Written, LongWritten}
 use Rattle.compare_profiles.specs.Parts.{Values}
 
 -- ---- the numbers of the list
@@ -91,3 +94,22 @@ module _ (s t : List ℕ) (r : Room) (x : Compared) (codes firsts seconds : List
     lines = λ a b es p q i j w. absurd (n (ap (λ (o : Outcome). o .result .answer) e ∙ room-enough a b s t r i j k l m));
     refused = λ z. refl;
   }
+
+-- ---- long files
+
+-- a profile is not cut, and what is cut to a profile is one
+uncut : (a : List Setting) (s : List ℕ) → Bytes s → IsProfile a s → take 1793 s ≡ s
+uncut a s b i = take-all 1793 s (omega (arith, at-most-256 a s b i .1))
+
+cut-profile : (s : List ℕ) → Bytes s → SomeProfile (take 1793 s) → SomeProfile s
+cut-profile s b p =
+    accepts-exactly .isOne s (ap (λ (j : Judged). j .answer) (sym (long-cut s b) ∙ accepts-exactly .every (p .settings) (take 1793 s) (p .isProfile)))
+
+pub long-written : LongWritten
+long-written s t text p q w = record {
+  lines = λ a b ds x y i j k.
+      let e = uncut a s p i in
+      let f = uncut b t q j in
+      w .lines a b ds (bytes-take 1793 p) (bytes-take 1793 q) (subst (IsProfile a) (sym e) i) (subst (IsProfile b) (sym f) j) k;
+  refused = λ n. w .refused (λ x y. n (cut-profile s p x) (cut-profile t q y));
+}

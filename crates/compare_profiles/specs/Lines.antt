@@ -3,6 +3,7 @@
 use Prim.Native.Nat.{ℕ, _<_}
 use mathlib.Core.Path.{_≡_}
 use mathlib.Core.List.{List, [], _∷_, _++_}
+use lib.ListN.{take}
 use Rattle.checksum.specs.Bytes.{Bytes}
 use Rattle.numerals.specs.Numerals.{Decimal, hexadecimal}
 use Rattle.profile_form_rules.specs.Form.{Setting}
@@ -39,3 +40,7 @@ WriteRule = (s t : List ℕ) → List ℕ
 
 abbrev pub WritesDifferences : WriteRule → Type 0
 WritesDifferences write = (s t : List ℕ) → Written s t (write s t)
+
+-- a file is read up to 1,793 bytes: what is to be written of these is what is to be written of the whole files
+abbrev pub LongWritten : Type 0
+LongWritten = (s t text : List ℕ) → Bytes s → Bytes t → Written (take 1793 s) (take 1793 t) text → Written s t text

@@ -19,6 +19,7 @@ const ARGUMENTS: usize = 3;
 const PROFILE_ROOM: usize = LONGEST_PROFILE + 1;
 
 // Reads the file that an argument names, to its end or until the room is full.
+// An argument that is too long for a path, and a file that does not open, count as one that cannot be read.
 fn read_file(argument: usize, profile: &mut [u8]) -> Input {
     let mut path = io::buffer();
     let n = os::arg(argument, &mut path);

@@ -10,7 +10,7 @@ const PART: usize = 2048;
 pub enum Input {
     // So many bytes, behind which it ended or had no more room.
     Bytes(usize),
-    // A read failed: what came before it may be cut anywhere.
+    // It could not be read to its end: what came may be cut anywhere.
     Failed,
 }
 

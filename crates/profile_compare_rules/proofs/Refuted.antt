@@ -1,7 +1,7 @@
 -- Wrong rules, and that the theorems do not hold of them: equal values listed, a value taken from the other profile, a code of
--- the second profile left out, a code that is absent taken for one at 0, the last code not compared, falling order, the second's 17 before the first's, a refusal that
--- does not say which profile, room one short taken, the room of the codes alone, a part of the list where the room is short,
--- entries past the list cleared; and a turning that keeps what is absent.
+-- the second profile left out, absent taken for 0, the last code not compared, falling order; the second's 17 before the
+-- first's, a refusal that does not say which profile; room one short taken, exact room refused, the room of the codes alone, a
+-- part of the list where the room is short, entries past the list cleared; and a turning that keeps what is absent.
 use mathlib.Core.Path.{_≡_, refl, ap}
 use mathlib.Core.Bool.{Bool, true, cond, _&&_}
 use mathlib.Core.List.{List, [], _∷_, _++_, map}
@@ -177,6 +177,14 @@ one-in compare h r = as-ours compare h [] (one 0x10 70) r none (one-bytes 0x10 7
 pub one-short-refuted : Compares oneShort → ⊥
 unfolding compareProfiles compareAs listDifferences differencesFrom valueOf settingsIn judgeForm judgeRecords recordFits beginsWith
 one-short-refuted h = let e : _≡_ {A = ℕ} 0 1 = ap (λ (o : Outcome). o .result .answer) (one-in oneShort h (nines 0)) in omega arith
+
+-- room for exactly the differences is refused
+abbrev exactRoomRefused : CompareRule
+exactRoomRefused = listsBy (λ ds r. cond (leb (length ds + 1) (roomIn r)) (accepted ds r) (refusedWith 1 0 0 r))
+
+pub exact-room-refused-refuted : Compares exactRoomRefused → ⊥
+unfolding compareProfiles compareAs listDifferences differencesFrom valueOf settingsIn judgeForm judgeRecords recordFits beginsWith
+exact-room-refused-refuted h = let e : _≡_ {A = ℕ} 1 0 = ap (λ (o : Outcome). o .result .answer) (one-in exactRoomRefused h (nines 1)) in omega arith
 
 -- the codes' room is the room
 abbrev codesRoom : CompareRule

@@ -16,7 +16,8 @@ pub const CODE_AT: usize = 4;
 
 pub const VALUE_AT: usize = 5;
 
-// The most bytes of a profile: a record for each code.
+// The most bytes of a profile by its form: a record for each code.
+// A display writes one record less, since F4 is the table.
 pub const LONGEST_PROFILE: usize = 1792;
 
 // How a profile is judged.

@@ -2,7 +2,7 @@
 use mathlib.Core.Path.{sym, ap, _∙_}
 use borrow.Author.Needs.{needs}
 use Rattle.profile_form_rules.specs.declared.Judged.{Judged}
-use Rattle.profile_compare_rules.specs.Compare.{lent}
+use Rattle.profile_compare_rules.specs.Compare.{lent, outcome}
 use Rattle.profile_compare.proofs.Outcomes.{compare-first, compare-second, compare-both}
 use Rattle.profile_compare.proofs.compare.Statement.{statement}
 use Rattle.profile_compare.proofs.compare.Tie as tie
@@ -61,7 +61,8 @@ returns-3 c =
     let one = other .before .before .before in
     let given = one .before .before .before .before .before .before in
     compare-both (given .args .first .now) (given .args .second .now) (lent (given .args .codes .now) (given .args .firsts .now) (given .args .seconds .now)) _ (one .judge .ensures)
-    (other .before .if1 .left) _ (other .judge2 .ensures) (both .if2 .left) _ (listed .list-or-refuse .ensures)
+    (other .before .if1 .left) _ (other .judge2 .ensures) (both .if2 .left)
+    (outcome (listed .list-or-refuse .result) (lent (listed .list-or-refuse .last .1 .1 .0) (listed .list-or-refuse .last .1 .1 .1 .0) (listed .list-or-refuse .last .1 .1 .1 .1 .0))) (listed .list-or-refuse .ensures)
 
 pub compare-spec : {M : Type 1} → statement M
 compare-spec =

@@ -62,7 +62,8 @@ returns-2 c =
     let room = many .before in
     let given = room .before .before .before .before .before .before .before in
     list-listed (listOf (given .args .first .now) (given .args .second .now)) (lent (given .args .codes .now) (given .args .firsts .now) (given .args .seconds .now)) _ (room-is room)
-    (sym (many .too-many .ensures) ∙ other .if1 .left) _ _ (listed .list .ensures .0) (listed .list .ensures .1)
+    (sym (many .too-many .ensures) ∙ other .if1 .left)
+    (listed .list .result) (lent (listed .list .last .1 .1 .0) (listed .list .last .1 .1 .1 .0) (listed .list .last .1 .1 .1 .1 .0)) (listed .list .ensures .0) (listed .list .ensures .1)
 
 pub list-or-refuse-spec : {M : Type 1} → statement M
 list-or-refuse-spec =

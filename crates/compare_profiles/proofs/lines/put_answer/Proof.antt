@@ -1,13 +1,18 @@
 -- `put_answer` puts the lines of an accepted comparison, or the line of a refusal.
 use Prim.Native.Nat.{ℕ}
 use native.Mathlib.Omega.{arith}
-use lib.ListN.{length-replicate}
+use lib.ListN.{replicate, length-replicate}
+use Rattle.profile_compare_rules.specs.Compare.{Room, lent}
 use Rattle.checksum.proofs.Bytes.{bytes-of}
 use Rattle.compare_profiles.specs.Lines.{refusedLine}
 use Rattle.compare_profiles.proofs.Answers.{answer-few, first-values, second-values, answer-written, refused-written}
 use borrow.Author.Needs.{needs}
 use Rattle.compare_profiles.proofs.lines.put_answer.Statement.{statement}
 use Rattle.compare_profiles.proofs.lines.put_answer.Tie as tie
+
+-- what is lent to the comparison
+abbrev zeroes : Room
+zeroes = lent (replicate 256 0) (replicate 256 0) (replicate 256 0)
 
 slice-aggregate-compare : tie.Need-slice-aggregate-compare
 slice-aggregate-compare c = search needs
@@ -39,14 +44,18 @@ put-lines-requires c κs =
     let s = given .args .first .now in
     let t = given .args .second .now in
     let e = compared .compare .ensures in
-    let few = answer-few s t _ _ _ _ _ e (then .if1 .taken) in
+    let x = compared .compare .result in
+    let codes = compared .compare .last .1 .1 .0 in
+    let firsts = compared .compare .last .1 .1 .1 .0 in
+    let seconds = compared .compare .last .1 .1 .1 .1 .0 in
+    let few = answer-few s t zeroes x codes firsts seconds e (then .if1 .taken) in
     let zeros = length-replicate {A = ℕ} 256 0 in (
       few,
       omega (arith, compared .compare .kept),
       omega (arith, compared .compare .kept),
       omega (arith, compared .compare .kept),
-      first-values s t _ _ _ _ _ e (then .if1 .taken) (bytes-of s (λ k. omega (arith, second .before .shared-slice-known .given k))),
-      second-values s t _ _ _ _ _ e (then .if1 .taken) (bytes-of t (λ k. omega (arith, second .shared-slice-known2 .given k))),
+      first-values s t zeroes x codes firsts seconds e (then .if1 .taken) (bytes-of s (λ k. omega (arith, second .before .shared-slice-known .given k))),
+      second-values s t zeroes x codes firsts seconds e (then .if1 .taken) (bytes-of t (λ k. omega (arith, second .shared-slice-known2 .given k))),
       given .pre,
     )
 
@@ -62,7 +71,7 @@ returns c =
     let l = put .put-lines .ensures in
     record {
       text = l .text;
-      written = answer-written (given .args .first .now) (given .args .second .now) _ _ _ _ _ (compared .compare .ensures) (then .if1 .taken) (l .text) (l .lines);
+      written = answer-written (given .args .first .now) (given .args .second .now) zeroes (compared .compare .result) (compared .compare .last .1 .1 .0) (compared .compare .last .1 .1 .1 .0) (compared .compare .last .1 .1 .1 .1 .0) (compared .compare .ensures) (then .if1 .taken) (l .text) (l .lines);
       there = l .there;
       counted = l .counted;
     }
@@ -82,7 +91,7 @@ returns-2 c =
     let zeros = length-replicate {A = ℕ} 256 0 in
     record {
       text = refusedLine;
-      written = refused-written (given .args .first .now) (given .args .second .now) _ _ _ _ _ (compared .compare .ensures) (else .if1 .left) (omega arith) (omega arith) (omega arith);
+      written = refused-written (given .args .first .now) (given .args .second .now) zeroes (compared .compare .result) (compared .compare .last .1 .1 .0) (compared .compare .last .1 .1 .1 .0) (compared .compare .last .1 .1 .1 .1 .0) (compared .compare .ensures) (else .if1 .left) (omega arith) (omega arith) (omega arith);
       there = put .put-refused .ensures .0;
       counted = put .put-refused .ensures .1;
     }

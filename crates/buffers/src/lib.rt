@@ -1,5 +1,7 @@
 // Bytes and parts of slices, so that a caller has no length to prove: a byte that is not there is 0, a part is cut at
 // the end, and bytes that do not fit into a buffer are not put.
+#![tactic(auto)]
+
 ghost use Rattle.std.specs.Prelude.{◌≡◌, [], ◌∷◌, ◌+◌, ◌<◌, min, leb, get_or, take, drop};
 ghost use Rattle.buffers.specs.Buffers.{part_of, put_whole};
 

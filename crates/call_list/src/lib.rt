@@ -2,6 +2,8 @@
 // Each function is proved equal to its definition in call_list_rules, for every slice.
 //
 // Each record is compared with every earlier one: there are at most 85.
+#![tactic(auto)]
+
 ghost use Rattle.std.specs.Prelude.{◌≡◌, ◌+◌, ◌≤◌, length};
 ghost use Rattle.call_list_rules.specs.CallList.{start_of, token_of, household_of, among, record_answer, refused_at, check_list, search_from, find_household, entry_of};
 ghost use Rattle.call_list.specs.Parts.{field_of, number_in, Held};

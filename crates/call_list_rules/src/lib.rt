@@ -1,5 +1,7 @@
 // The call list: its types and limits.
 // What they mean stands in specs/, and the theorems in proofs/.
+#![tactic(auto)]
+
 pub mod limits;
 
 use message_rules::Position;

@@ -1,4 +1,6 @@
 // Judges a capabilities string as the papers' grammar says, and changes nothing.
+#![tactic(auto)]
+
 ghost use Rattle.std.specs.Prelude.{◌≡◌, ◌≤◌, ◌<◌, length};
 ghost use Rattle.capabilities_rules.specs.Limits.{deepest};
 ghost use Rattle.capabilities_rules.specs.Outcome.{outcome};

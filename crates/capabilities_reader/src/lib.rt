@@ -1,6 +1,8 @@
 // Reads a capabilities string: accepted or refused as the papers' grammar says.
 // Its tree is given as nodes in four lent buffers.
 // A checker judges the whole string before the filler stores the first node, so that a refusal changes no buffer.
+#![tactic(auto)]
+
 mod filler;
 
 ghost use Rattle.std.specs.Prelude.{◌≡◌};

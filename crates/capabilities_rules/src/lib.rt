@@ -1,4 +1,6 @@
 // The types of reading a capabilities string (the papers' capability text). What they mean stands in specs/, and the theorems in proofs/.
+#![tactic(auto)]
+
 use message_rules::Position;
 
 pub mod limits;

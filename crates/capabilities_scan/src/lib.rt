@@ -1,5 +1,7 @@
 // Scans a capabilities string: what a byte is, and where a run of letters, of spaces or of zero bytes ends.
 // No function asks anything of a position: past the end no byte stands, and a run there is empty.
+#![tactic(auto)]
+
 ghost use Rattle.std.specs.Prelude.{◌≡◌, ◌+◌, eqb, drop, get_or};
 ghost use Rattle.capabilities_rules.specs.Machine.{kind_of, is_letter};
 ghost use Rattle.capabilities_rules.specs.Nodes.{letters};

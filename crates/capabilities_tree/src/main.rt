@@ -2,6 +2,8 @@
 // A string that is refused gives one line, `refused N at P`, and one line on standard error that says why.
 // The string ends where the input ends: a line end behind it is a byte of the string, and is refused.
 // An input that cannot be read gives no line on standard output, and one on standard error.
+#![tactic(auto)]
+
 use libc::{STDERR_FILENO, STDIN_FILENO, STDOUT_FILENO};
 use message_rules::limits::LONGEST_TEXT;
 

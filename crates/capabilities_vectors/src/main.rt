@@ -2,6 +2,8 @@
 // strings of real monitors.
 // Writes one line a group: how many of its strings were answered right.
 // Every expected number is the papers' own, as a numeral: none is named by a constant that is under test.
+#![tactic(auto)]
+
 use buffers::{front_mut, wide32};
 use capabilities_rules::Reading;
 use libc::STDOUT_FILENO;

@@ -1,5 +1,7 @@
 // The checksum of a message (the papers' check): the exclusive-or of its bytes with a seed.
 // It is taken of eight bytes at a time, as one number, and of those that are left singly.
+#![tactic(auto)]
+
 ghost use Rattle.std.specs.Prelude.{◌≡◌, ◌+◌, ◌*◌, ◌≤◌, ◌<◌, length, take, drop};
 ghost use Rattle.checksum.specs.Words.{packed, folded};
 ghost use Rattle.checksum.specs.Xor.{xor_all};

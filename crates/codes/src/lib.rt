@@ -1,4 +1,6 @@
 // A set of VCP codes 0 to 255 as four 64-bit words, one bit a code.
+#![tactic(auto)]
+
 ghost use Rattle.std.specs.Prelude.{◌≡◌, ◌<◌};
 ghost use Rattle.codes.specs.Codes.{no_codes, member, bit_assigned, assigned, inserted, in_both, count_of, next_of};
 ghost use Rattle.codes.specs.Words.{Weight, FirstBit};

@@ -1,6 +1,8 @@
 // Compares two settings profiles, each in a file that an argument names.
 // Writes a line for each code that is in one only or whose values differ: the code, the first's value, the second's.
 // Where a profile is refused, or a file cannot be read, or there are not two arguments, it writes `refused 17` alone.
+#![tactic(auto)]
+
 mod lines;
 
 ghost use Rattle.std.specs.Prelude.{◌≤◌, length};

@@ -1,6 +1,8 @@
 // A day at the water point, in one process, from the tent's first message to dusk.
 // There are two displays, each at the end of its own bad line.
 // The hosts and the line stand in libraries of their own; here the displays are started, asked and stepped.
+#![tactic(auto)]
+
 mod site;
 mod starting;
 mod tasks;

@@ -1,5 +1,7 @@
 // A simulated line that loses, cuts, flips and repeats, by a fixed rule.
 // What becomes of an exchange stands as definitions in specs/; a tally counts it.
+#![tactic(auto)]
+
 pub mod tally;
 
 ghost use Rattle.std.specs.Prelude.{◌≡◌};

@@ -1,5 +1,7 @@
 // 06:00 and 12:00: a host reads a text of a display over the line, fragment by fragment.
 // It asks again where the line spoils an exchange.
+#![tactic(auto)]
+
 mod calls;
 mod strings;
 

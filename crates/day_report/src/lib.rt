@@ -1,5 +1,7 @@
 // What the day writes for people, line by line.
 // No contract can speak of what is written; these functions are proved safe and ending.
+#![tactic(auto)]
+
 pub mod checks;
 pub mod exchanges;
 pub mod messages;

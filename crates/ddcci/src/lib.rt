@@ -1,5 +1,7 @@
 // The library's functions for Rust and C, on numbers and slices alone.
 // They are thin over the proved functions, and refuse like them.
+#![tactic(auto)]
+
 pub mod calls;
 pub mod capability;
 pub mod profiles;

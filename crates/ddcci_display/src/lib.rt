@@ -1,5 +1,7 @@
 // The display for Rust and C: its state is a struct of numbers and arrays by value, and all else goes by slices.
 // Thin over the proved functions, refusing like them.
+#![tactic(auto)]
+
 ghost use Rattle.std.specs.Prelude.{◌≡◌, length};
 ghost use Rattle.codes.specs.Codes.{count_of, next_of};
 ghost use Rattle.display_rules.specs.State.{start, declare};

@@ -1,4 +1,6 @@
 // What an accepted message asked for, in numbers, by the bytes of the message.
+#![tactic(auto)]
+
 ghost use Rattle.std.specs.Prelude.{◌<◌, cond, ◌≡◌, leb, length, get_or};
 ghost use Rattle.message_rules.specs.Body.{word};
 ghost use Rattle.message_rules.specs.Layout.{row_of};

@@ -1,5 +1,7 @@
 // The operations of one device: what Get, Set and Timing come to, from its settings and the address pair of its replies.
 // Nothing here knows of texts or of a whole display.
+#![tactic(auto)]
+
 ghost use Rattle.std.specs.Prelude.{◌≡◌, true};
 ghost use Rattle.message_rules.specs.Message.{replies, encode};
 ghost use Rattle.settings_rules.specs.Settings.{get_code};

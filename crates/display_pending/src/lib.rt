@@ -1,5 +1,7 @@
 // What a message leaves to be done to the display, once it was judged and answered, and how that is done.
 // What says it is small; the display, which is large, is then passed on once.
+#![tactic(auto)]
+
 pub mod changes;
 pub mod send;
 

@@ -1,4 +1,6 @@
 // A display on standard input and output. The format of its records stands in docs/DISPLAY-PIPE.md.
+#![tactic(auto)]
+
 use buffers::{front, front_mut, front_words, least, octet, wide_word};
 use ddcci_display::{ddcci_display_set_all, ddcci_display_step};
 use display_rules::Display;

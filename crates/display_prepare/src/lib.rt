@@ -1,5 +1,7 @@
 // All of a display's step but the change of the display: a message is judged and answered, with a small result.
 // The display, which is large, is then passed on once, by `ddcci_display::ddcci_display_step`.
+#![tactic(auto)]
+
 ghost use Rattle.std.specs.Prelude.{◌≡◌, List, ℕ, ◌≤◌, length};
 ghost use Rattle.message_request_reader.specs.Outcome.{request_in, RequestInside};
 ghost use Rattle.message_rules.specs.Limits.{output_room};

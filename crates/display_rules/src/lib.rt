@@ -1,5 +1,7 @@
 // The types of a display (the papers' board), and of what its start, declaring and a step return.
 // What they mean stands in specs/, and the theorems in proofs/.
+#![tactic(auto)]
+
 pub mod limits;
 
 use message_rules::{TextKind, TextOffset};

@@ -1,4 +1,6 @@
 // Starting a display, and declaring the codes that it has, proved equal to display_rules' definitions.
+#![tactic(auto)]
+
 ghost use Rattle.std.specs.Prelude.{◌≡◌, length};
 ghost use Rattle.display_rules.specs.State.{fresh, empty_display, start_answer, start, declare};
 

@@ -1,5 +1,7 @@
 // Runs the rows of standard input on displays, and writes one line a group.
 // The form of the input stands at its head, in the file stdin.
+#![tactic(auto)]
+
 mod bench;
 mod calls;
 mod line;

@@ -2,6 +2,8 @@
 // A list that is refused gives nothing at all, not even a line on standard error.
 // The list ends where the input ends. An input that cannot be read up to its end gives nothing on standard output, and
 // one line on standard error: cut between two records it would be accepted, and the last households never called.
+#![tactic(auto)]
+
 mod tokens;
 
 use buffers::front;

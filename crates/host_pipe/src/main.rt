@@ -1,5 +1,7 @@
 // A host on standard output and input, against the display of docs/DISPLAY-PIPE.md.
 // It starts and fills a display, reads its texts back, and reports on standard error.
+#![tactic(auto)]
+
 mod job;
 mod pipe;
 mod read;

@@ -1,4 +1,6 @@
 // An input of a program, read to its end: standard input or a file.
+#![tactic(auto)]
+
 use buffers::{front, least, put};
 
 // The most bytes of one read.

@@ -1,4 +1,6 @@
 // The frame of a message: first byte, length byte and checksum, for either direction and any pair of address bytes.
+#![tactic(auto)]
+
 ghost use Rattle.std.specs.Prelude.{◌≡◌, ◌<◌, ◌&&◌, ltb, get_or};
 ghost use Rattle.message_rules.specs.Frame.{body_length, fits, length_byte};
 ghost use Rattle.message_rules.specs.Layout.{longest};

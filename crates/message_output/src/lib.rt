@@ -1,4 +1,6 @@
 // Putting a message into the output: what the builders of requests and of replies share.
+#![tactic(auto)]
+
 ghost use Rattle.std.specs.Prelude.{◌≡◌, true, ◌++◌, ◌+◌, ◌/◌, ◌%◌, ◌<◌, length, set};
 ghost use Rattle.message_rules.specs.Frame.{closed};
 ghost use Rattle.message_output.specs.Output.{built_length, BuildsShort, refusal};

@@ -1,6 +1,8 @@
 // Builders of replies, the messages to the host.
 // Each puts its message into the output and returns the message's length.
 // A refusal returns its number and leaves the output as it was: 1 for an output under 38 bytes, then 7.
+#![tactic(auto)]
+
 ghost use Rattle.std.specs.Prelude.{true, leb, length};
 ghost use Rattle.message_rules.specs.Limits.{most_fragment};
 ghost use Rattle.message_rules.specs.Message.{replies, value, timing_reply, text_fragment, table_fragment, null, to_host};

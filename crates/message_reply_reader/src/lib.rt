@@ -1,4 +1,6 @@
 // The readers of replies, the messages to the host, proved equal to message_rules' `decode`.
+#![tactic(auto)]
+
 mod table;
 
 ghost use Rattle.std.specs.Prelude.{◌≡◌, ◌&&◌, ◌+◌, ◌<◌, ltb, length, get_or};

@@ -1,4 +1,6 @@
 // The reader of requests, the messages to the display, proved equal to message_rules' `decode`.
+#![tactic(auto)]
+
 mod table;
 
 ghost use Rattle.std.specs.Prelude.{◌≡◌, ◌+◌, ◌<◌, length, get_or};

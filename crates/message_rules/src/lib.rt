@@ -1,5 +1,7 @@
 // The types of DDC/CI messages, the answer numbers and the limits.
 // What they mean stands in specs/, and the theorems in proofs/.
+#![tactic(auto)]
+
 pub mod answer;
 pub mod fields;
 pub mod limits;

@@ -1,6 +1,8 @@
 // Runs the vectors of standard input, then document 01's rules for single fields and its table of messages whole.
 // Writes one line a group.
 // The form of the input stands at its head, in the file stdin.
+#![tactic(auto)]
+
 mod line;
 mod setting;
 mod values;

@@ -1,4 +1,6 @@
 // Numbers as text, put into the lines that programs write.
+#![tactic(auto)]
+
 ghost use Rattle.std.specs.Prelude.{◌≡◌, ◌<◌};
 ghost use Rattle.buffers.specs.Buffers.{put_whole};
 ghost use Rattle.numerals.specs.Numerals.{PutsDecimal, capital, hexadecimal};

@@ -3,6 +3,8 @@
 // Both walk the profile's codes by the next code of one set.
 // The set has the codes that are declared, readable and writable and not momentary.
 // Loading judges the profile in a first pass that stores nothing, so that a refusal has nothing to undo.
+#![tactic(auto)]
+
 ghost use Rattle.std.specs.Prelude.{◌≡◌, ◌+◌, ◌*◌, ◌/◌, ◌≤◌, ◌<◌, length, drop};
 ghost use Rattle.buffers.specs.Buffers.{put};
 ghost use Rattle.codes.specs.Codes.{member};

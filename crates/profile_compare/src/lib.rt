@@ -2,6 +2,8 @@
 //
 // Both profiles are judged first. The codes of accepted ones rise, so one walk goes through both side by side: at each step
 // it takes the lowest code that comes next in either, until one of them has ended.
+#![tactic(auto)]
+
 ghost use Rattle.std.specs.Prelude.{◌≡◌, ◌+◌, ◌≤◌, length, drop, ltb};
 ghost use Rattle.profile_form_rules.specs.Records.{record_size, code_in, value_in};
 ghost use Rattle.profile_compare_rules.specs.Compare.{lent, room_in, listed_in, outcome, refusal, list_differences, compare_profiles};

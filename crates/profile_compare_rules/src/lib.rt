@@ -1,5 +1,7 @@
 // Comparing two settings profiles: its types and constants.
 // What they mean stands in specs/, and the theorems in proofs/.
+#![tactic(auto)]
+
 use message_rules::Position;
 
 // What stands for a value where a profile does not have the code: no value is 65,536.

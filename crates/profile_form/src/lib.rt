@@ -1,4 +1,6 @@
 // Judging a settings profile by its form alone, proved equal to its definition in profile_form_rules for every slice.
+#![tactic(auto)]
+
 ghost use Rattle.std.specs.Prelude.{◌≡◌, ◌≤◌, ◌<◌, length, drop};
 ghost use Rattle.profile_form_rules.specs.Records.{code_in};
 ghost use Rattle.profile_form_rules.specs.Form.{record_fits, judge_form};

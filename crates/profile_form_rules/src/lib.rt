@@ -1,5 +1,7 @@
 // The form of a settings profile (the papers' settings sheet), whatever display it belongs to: its constants and types.
 // What they mean stands in specs/, and the theorems in proofs/.
+#![tactic(auto)]
+
 use message_rules::Position;
 
 // The bytes of a record of kind 1.

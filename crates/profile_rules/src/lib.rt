@@ -1,5 +1,7 @@
 // Writing and loading the settings profile (the papers' settings sheet): their types. Its form is profile_form_rules'.
 // What they mean stands in specs/, and the theorems in proofs/.
+#![tactic(auto)]
+
 use message_rules::Position;
 use settings_rules::Settings;
 

@@ -2,6 +2,8 @@
 //
 // No function asks anything of a position: bytes that are not there count as 0, no record stands where it would be
 // cut, and bytes that do not fit into an output are not put.
+#![tactic(auto)]
+
 ghost use Rattle.std.specs.Prelude.{◌≡◌, [], ◌∷◌, ◌+◌, ◌*◌, length, get_or, drop, leb};
 ghost use Rattle.buffers.specs.Buffers.{put_whole};
 ghost use Rattle.records.specs.Numbers.{little_endian, word_at, long_at};

@@ -1,5 +1,7 @@
 // Setting many codes in one call (document 02, K1).
 // What it leaves is proved to be what that many Sets leave, one after the other.
+#![tactic(auto)]
+
 ghost use Rattle.std.specs.Prelude.{◌≡◌, ◌≤◌, length};
 ghost use Rattle.message_rules.specs.Answer.{done};
 ghost use Rattle.set_all_rules.specs.SetAll.{try_all, call_answer, left_by_all, set_all};

@@ -1,5 +1,7 @@
 // Setting many codes in one call (document 02, K1): its limit, and what it returns.
 // What they mean stands in specs/, and the theorems in proofs/.
+#![tactic(auto)]
+
 
 // The most settings of one call.
 pub const MOST_SETTINGS: usize = 64;

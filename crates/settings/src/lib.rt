@@ -1,6 +1,8 @@
 // The values of one device by its VCP codes, with its timing: what declaring, Get, Set and Save do with them.
 //
 // Each function is proved equal to its definition in settings_rules.
+#![tactic(auto)]
+
 ghost use Rattle.std.specs.Prelude.{◌≡◌, get_or, set};
 ghost use Rattle.codes.specs.Codes.{member, count_of, next_of};
 ghost use Rattle.settings_rules.specs.Settings.{empty_settings, starting_settings, start_with, exceeds_maximum, access_refused, declaration_refused, with_declaration, declare_code, answer_to_set, judge_set, save_all, type_number, get_code};

@@ -1,5 +1,7 @@
 // The types of one device's settings: what is kept for each VCP code, and what declaring, Get and Set say of it.
 // What they mean stands in specs/, and the theorems in proofs/.
+#![tactic(auto)]
+
 
 // The type of a momentary code; a kept one is 0.
 pub const MOMENTARY: u8 = 1;

@@ -2,6 +2,8 @@
 // They write texts, numbers in columns and answer numbers with their meaning; show_tree writes capabilities strings.
 // The first parameter is where to: standard output or standard error.
 // No contract can speak of what is written: these functions are proved safe and ending, and show_vectors runs them.
+#![tactic(auto)]
+
 pub mod answer;
 pub mod input;
 

@@ -1,4 +1,6 @@
 // Why a capabilities string is refused.
+#![tactic(auto)]
+
 use capabilities_checker::check;
 use capabilities_rules::Reading;
 use capabilities_rules::limits::MOST_NODES;

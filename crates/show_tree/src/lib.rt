@@ -1,4 +1,6 @@
 // The tree of a capabilities string, one word a line.
+#![tactic(auto)]
+
 ghost use Rattle.std.specs.Prelude.{◌≡◌, eqb};
 ghost use Rattle.message_rules.specs.Answer.{done};
 ghost use Rattle.capabilities_rules.specs.Limits.{most_nodes};

@@ -1,5 +1,7 @@
 // Writes what the programs write for people, so that each line is compared: the meanings of the answer numbers, and of
 // numbers that the papers do not have; a tree; and refused capabilities strings with why they are refused.
+#![tactic(auto)]
+
 use libc::STDOUT_FILENO;
 
 const TO: i32 = STDOUT_FILENO;

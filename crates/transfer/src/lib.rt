@@ -1,4 +1,6 @@
 // A transfer: begin, request and receive, each proved equal to transfer_rules' definition.
+#![tactic(auto)]
+
 mod steps;
 mod wire;
 

@@ -1,5 +1,7 @@
 // Receiving a reply in place: the transfer is changed where it stands.
 // It stands above the receive by value.
+#![tactic(auto)]
+
 ghost use Rattle.transfer_rules.specs.Transfer as rules;
 ghost use Rattle.transfer_rules.specs.Transfer.{Receives};
 

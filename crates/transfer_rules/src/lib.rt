@@ -1,5 +1,7 @@
 // The types of a transfer (the papers' read run): the host reads one of a display's two texts, fragment by fragment.
 // What they mean stands in specs/, and demand 3 in proofs/.
+#![tactic(auto)]
+
 pub mod limits;
 
 use message_rules::{TextKind, TextOffset};

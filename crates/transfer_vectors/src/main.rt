@@ -2,6 +2,8 @@
 // They have budgets of L and L + 1, fragments of 1, 31, 32 and mixed lengths, and lines with and without noise.
 // They go by value and in place. Strings that end with zero bytes are handed over with them, and then read.
 // The last line breaks what demand 3 supposes.
+#![tactic(auto)]
+
 mod display;
 mod flips;
 mod line;

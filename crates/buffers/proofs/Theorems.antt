@@ -1,12 +1,12 @@
 -- The theorems of specs/Statements.antt.
 use mathlib.Core.Path.{◌≡◌, refl, sym, ap, ◌∙◌, subst}
-use mathlib.Core.List.{List, ◌++◌, append_assoc}
+use mathlib.Core.List.{List, ◌++◌}
 use Prim.Native.Nat.{ℕ, ◌+◌, ◌-◌, ◌≤◌, ◌<◌}
 use native.Mathlib.Omega.{arith}
-use lib.ListN.{length, get_or, take, drop, length-append, length-drop, get_or-append}
+use lib.ListN.{length, get_or, take, drop, length-drop, get_or-append}
 use lib.Seq.{get_or-append-add, get_or-take, get_or-drop, take_at, drop_at, length-take-le}
 use Rattle.buffers.specs.Buffers.{over, put, put_whole, part_of}
-use Rattle.buffers.specs.Statements.{PutsBytes, PutsThere, PutsOrLeaves, OverPuts, PartBytes, TakesPart, PutComesBack}
+use Rattle.buffers.specs.Statements.{PutsBytes, PutsThere, PutsOrLeaves, OverPuts, PartBytes, PutComesBack}
 use Rattle.buffers.proofs.Puts.{put-length, put-over, put-fits, put_not}
 
 -- ---- each byte

@@ -1,5 +1,5 @@
 -- What the definitions of Buffers.antt come to, byte by byte. proofs/Theorems.antt proves each.
-use Rattle.std.specs.Prelude.{ℕ, ◌+◌, ◌-◌, ◌≤◌, ◌<◌, ◌≡◌, List, length, get_or}
+use Rattle.std.specs.Prelude.{ℕ, ◌+◌, ◌≤◌, ◌<◌, ◌≡◌, List, length, get_or}
 
 -- a rule that lays bytes into a buffer at an index, and one that takes a part out of a buffer
 abbrev pub PutRule : Type 0

@@ -2,7 +2,7 @@
 // the end, and bytes that do not fit into a buffer are not put.
 #![tactic(auto)]
 
-ghost use Rattle.std.specs.Prelude.{◌≡◌, [], ◌∷◌, ◌+◌, ◌<◌, min, leb, get_or, take, drop};
+ghost use Rattle.std.specs.Prelude.{◌≡◌, [], ◌∷◌, ◌+◌, ◌<◌, ◌≤◌, ◌++◌, length, min, leb, get_or, take, drop};
 ghost use Rattle.buffers.specs.Buffers.{part_of, put_whole};
 
 // Returns the byte as a wider number.
@@ -99,12 +99,22 @@ pub fn fits(room: usize, at: usize, n: usize) -> bool
     true
 }
 
+// Copies bytes to the front of a buffer that has room for them, and returns how many they are.
+// What stands behind them in the buffer stays.
+pub fn copy(s: &[u8], out: &mut [u8]) -> usize
+    requires { length s.now ≤ length out.old }
+    ensures { (result ≡ length s.now) × (out.new ≡ s.now ++ drop (length s.now) out.old) }
+{
+    out[..s.len()].copy_from_slice(s);
+    s.len()
+}
+
 // Puts bytes into a buffer from an index on; nothing, where they do not all fit.
 pub fn put(out: &mut [u8], at: usize, s: &[u8])
     ensures { out.new ≡ put_whole out.old at s.now }
 {
     if fits(out.len(), at, s.len()) {
-        bytes::copy(s, &mut out[at..]);
+        copy(s, &mut out[at..]);
     }
 }
 

@@ -1,6 +1,5 @@
 -- `assign` stores the word of its code.
 use Rattle.codes.specs.Codes.{assigned}
-use borrow.Author.Rules.{rules}
 use Rattle.codes.proofs.assign.Goals as goal
 
 pub returns : goal.returns

@@ -1,5 +1,4 @@
 -- `bit_from` is the trailing zeros of the word with its bits below s masked out.
-use borrow.Author.Rules.{rules}
 use native.Mathlib.Omega.{arith}
 use Prim.Native.Nat.{ℕ}
 use mathlib.Core.Path.{subst, sym}

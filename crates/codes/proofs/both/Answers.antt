@@ -1,6 +1,5 @@
 -- `both` takes each word of both sets together.
 use mathlib.Core.Path.{refl}
-use borrow.Author.Rules.{rules}
 use Rattle.codes.specs.Codes.{in_both}
 use Rattle.codes.proofs.both.Goals as goal
 

@@ -1,6 +1,5 @@
 -- `contains_in` reads the bit of its code.
 use mathlib.Core.Path.{refl}
-use borrow.Author.Rules.{rules}
 use Rattle.codes.specs.Codes.{bit, member}
 use Rattle.codes.proofs.contains_in.Goals as goal
 

@@ -1,5 +1,4 @@
 -- `count` is the sum of the weights of the four words.
-use borrow.Author.Rules.{rules}
 use native.Mathlib.Omega.{arith}
 use Rattle.codes.proofs.Members.{count-words}
 use Rattle.codes.proofs.count.Goals as goal

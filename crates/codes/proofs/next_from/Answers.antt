@@ -1,9 +1,7 @@
-use mathlib.Core.Path.{◌≡◌, sym}
+use mathlib.Core.Path.{sym}
 use mathlib.Core.Logic.{⊎_elim}
-use mathlib.Core.Bool.{false}
-use Prim.Native.Nat.{ℕ, ◌+◌, ◌-◌, ◌*◌, ◌≤◌, ◌<◌}
+use Prim.Native.Nat.{◌+◌, ◌*◌, ◌≤◌}
 use native.Mathlib.Omega.{arith}
-use Rattle.codes.specs.Codes.{member}
 use Rattle.codes.proofs.Cases.{lt_or_le}
 use Rattle.codes.proofs.Members.{word-clear, word-found}
 use Rattle.codes.proofs.Theorems.{next-is-least, next-is-nothing}

@@ -1,13 +1,8 @@
 -- `next_from` goes from word to word. The invariant: no code from `from` up to bit s of word i is in the set. The measure: the words left.
-use mathlib.Core.Path.{◌≡◌, sym}
-use mathlib.Core.Logic.{⊎_elim}
+use mathlib.Core.Path.{◌≡◌}
 use mathlib.Core.Bool.{false}
 use Prim.Native.Nat.{ℕ, ◌+◌, ◌-◌, ◌*◌, ◌≤◌, ◌<◌}
-use native.Mathlib.Omega.{arith}
 use Rattle.codes.specs.Codes.{member}
-use Rattle.codes.proofs.Cases.{lt_or_le}
-use Rattle.codes.proofs.Members.{word-clear, word-found}
-use Rattle.codes.proofs.Theorems.{next-is-least, next-is-nothing}
 use Rattle.codes.proofs.next_from.Given as goal
 
 abbrev pub invariant-loop-i : goal.invariant-loop-i

@@ -1,7 +1,6 @@
 -- `with_bit` sets by or, and clears by turning over what it has set.
 use Rattle.codes.specs.Codes.{bit_assigned}
 use Rattle.codes.proofs.Bits.{shl_one, or_sets, xor_clears}
-use borrow.Author.Rules.{rules}
 use Rattle.codes.proofs.with_bit.Goals as goal
 
 pub returns-then-inside : goal.returns-then-inside

@@ -66,8 +66,8 @@ pub fn build(seed: u8, head: &[u8], data: &[u8], out: &mut [u8]) -> Built
         return Built::Refused(answer::WRONG_FIELD);
     }
     let sum = checksum::checksum(checksum::singly(seed, head), data);
-    let at = bytes::copy(head, out);
-    let more = bytes::copy(data, &mut out[at..]);
+    let at = buffers::copy(head, out);
+    let more = buffers::copy(data, &mut out[at..]);
     Built::Done(close(sum, at + more, out))
 }
 

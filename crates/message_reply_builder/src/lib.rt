@@ -100,5 +100,5 @@ pub fn build_null(out: &mut [u8]) -> Built
     if out.len() < limits::OUTPUT_ROOM {
         return Built::Refused(answer::WRONG_SIZE);
     }
-    Built::Done(bytes::copy(b"\x6E\x80\xBE", out))
+    Built::Done(buffers::copy(b"\x6E\x80\xBE", out))
 }

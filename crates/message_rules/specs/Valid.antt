@@ -1,5 +1,5 @@
 -- Which messages are valid, field by field and with document 01's own numbers: what judges the table's limits and rules.
-use Rattle.std.specs.Prelude.{ℕ, ◌/◌, ◌%◌, ◌≤◌, ◌<◌, ◌≡◌, length}
+use Rattle.std.specs.Prelude.{◌/◌, ◌%◌, ◌≤◌, ◌<◌, ◌≡◌, length}
 use Rattle.checksum.specs.Bytes.{Bytes}
 use Rattle.message_rules.specs.Message.{Request, get_feature, set_feature, timing, save, text, table_read, table_write, Reply, value, timing_reply, text_fragment, table_fragment, Reading, Valid}
 

@@ -98,7 +98,7 @@ pub fn variants(to_host: bool, s: &[u8], answer: u8) -> Tally {
     if room.len() <= n {
         return Tally(0, 1);
     }
-    bytes::copy(s, room);
+    buffers::copy(s, room);
     let held = longer_holds(to_host, &room[0..n + 1], answer);
     changed(to_host, &mut room[0..n]).count(held)
 }

@@ -59,7 +59,7 @@ pub(crate) fn command(word: &[u8]) -> u8 {
     if word.len() > WIDTH {
         return UNKNOWN;
     }
-    bytes::copy(word, &mut padded);
+    buffers::copy(word, &mut padded);
     for i in 0..WORDS {
         let at = i * WIDTH;
         if check::same(fields::part(words, at, at + WIDTH), &padded) {

@@ -8,7 +8,7 @@ use message_rules::Position;
 
 // An entry of a call list: what one record says.
 #[repr(C)]
-#[derive(Drop)]
+#[derive(Clone, Copy)]
 pub struct Entry {
     // The token that is called.
     pub token: u32,
@@ -19,12 +19,12 @@ pub struct Entry {
 // An entry's number: the records of a list counted from 0 (document 02's position of a household).
 // It counts records and not bytes, so it is no `Position`.
 #[repr(C)]
-#[derive(Drop)]
+#[derive(Clone, Copy)]
 pub struct EntryNumber(pub usize);
 
 // How a list was checked.
 #[repr(C)]
-#[derive(Drop)]
+#[derive(Clone, Copy)]
 pub struct Checked {
     // The answer number: 0, 11, 17, 19 or 20.
     pub answer: u8,
@@ -35,7 +35,7 @@ pub struct Checked {
 }
 
 // What a query for a household returns.
-#[derive(Drop)]
+#[derive(Clone, Copy)]
 pub enum Found {
     // The number of the entry that has the household.
     At(EntryNumber),

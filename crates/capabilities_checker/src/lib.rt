@@ -14,7 +14,7 @@ use message_rules::limits::LONGEST_TEXT;
 use message_rules::{Position, answer};
 
 // What the checker of a group finds.
-#[derive(Drop)]
+#[derive(Clone, Copy)]
 enum Group {
     // The position past its ")", and the nodes made by then.
     Closed(Position, usize),

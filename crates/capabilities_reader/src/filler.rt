@@ -11,7 +11,7 @@ use capabilities_scan::{CLOSE, opens_at, skip_spaces, word_end};
 use message_rules::Position;
 
 // The position past a group, and the nodes made by then.
-#[derive(Drop)]
+#[derive(Clone, Copy)]
 struct Past {
     next: Position,
     count: usize,

@@ -6,7 +6,7 @@ use message_rules::Position;
 pub mod limits;
 
 // What reading a capabilities string answers.
-#[derive(Drop)]
+#[derive(Clone, Copy)]
 pub enum Reading {
     // The string is accepted, and has this many nodes.
     Accepted(usize),

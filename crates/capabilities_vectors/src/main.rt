@@ -12,7 +12,7 @@ use libc::STDOUT_FILENO;
 const ROOM: usize = 600;
 
 // What a string is to be answered.
-#[derive(Drop)]
+#[derive(Clone, Copy)]
 enum Wanted {
     // It is accepted, with this number of nodes, and they have this digest.
     Nodes(usize, u32),
@@ -21,7 +21,7 @@ enum Wanted {
 }
 
 // What the strings of a group came to.
-#[derive(Drop)]
+#[derive(Clone, Copy)]
 struct Tally {
     // How many were tried.
     tried: u64,

@@ -6,7 +6,7 @@ ghost use Rattle.codes.specs.Codes.{no_codes, member, bit_assigned, assigned, in
 ghost use Rattle.codes.specs.Words.{Weight, FirstBit};
 
 // The least code of a set from some number on.
-#[derive(Drop)]
+#[derive(Clone, Copy)]
 pub enum Next {
     // There is one, and it is this.
     Code(u8),

@@ -6,7 +6,7 @@ use message_reply_reader::{ReplyRead, read_display_reply};
 use message_rules::answer;
 
 // A message of the tent, with what should come of it.
-#[derive(Drop)]
+#[derive(Clone, Copy)]
 pub enum Action {
     // A Set of a code to a value, and the answer that it should have.
     Set(u8, u16, u8),

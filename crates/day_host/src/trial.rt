@@ -24,7 +24,7 @@ pub struct Profile {
 }
 
 // What a load left.
-#[derive(Drop)]
+#[derive(Clone, Copy)]
 pub struct Left {
     // The settings afterwards.
     pub settings: Settings,

@@ -10,7 +10,7 @@ ghost use Rattle.day_line.specs.Line as rules;
 use message_rules::limits::OUTPUT_ROOM;
 
 // What becomes of an exchange.
-#[derive(Drop)]
+#[derive(Clone, Copy)]
 pub enum Fate {
     // Nothing is spoiled.
     Good,
@@ -36,7 +36,7 @@ pub struct Frame {
 }
 
 // A line.
-#[derive(Drop)]
+#[derive(Clone, Copy)]
 pub struct Line {
     // The number that the next fate is drawn from.
     pub seed: u64,

@@ -2,7 +2,7 @@
 use crate::Fate;
 
 // What became of the exchanges that were counted.
-#[derive(Drop)]
+#[derive(Clone, Copy)]
 pub struct Tally {
     // How many were accepted.
     pub accepted: u64,

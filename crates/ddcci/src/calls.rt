@@ -8,7 +8,7 @@ use message_rules::answer;
 
 // What a query for a household returns.
 #[repr(C)]
-#[derive(Drop)]
+#[derive(Clone, Copy)]
 pub struct HouseholdNumbers {
     // The answer number.
     pub answer: u8,

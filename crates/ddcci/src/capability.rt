@@ -8,7 +8,7 @@ use message_rules::answer;
 
 // What reading a capabilities string returns.
 #[repr(C)]
-#[derive(Drop)]
+#[derive(Clone, Copy)]
 pub struct ReadingNumbers {
     // The answer number.
     pub answer: u8,

@@ -18,7 +18,7 @@ use message_rules::answer;
 
 // What a builder returns.
 #[repr(C)]
-#[derive(Drop)]
+#[derive(Clone, Copy)]
 pub struct BuiltNumbers {
     // The answer number.
     pub answer: u8,

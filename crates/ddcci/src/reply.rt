@@ -11,7 +11,7 @@ use message_rules::{TO_HOST, TextOffset, answer};
 
 // What reading a reply returns. What a message does not have is 0.
 #[repr(C)]
-#[derive(Drop)]
+#[derive(Clone, Copy)]
 pub struct ReplyNumbers {
     // The answer number.
     pub answer: u8,

@@ -11,7 +11,7 @@ use message_rules::{TO_DISPLAY, TextOffset, answer};
 
 // What reading a request returns. What a message does not have is 0.
 #[repr(C)]
-#[derive(Drop)]
+#[derive(Clone, Copy)]
 pub struct RequestNumbers {
     // The answer number.
     pub answer: u8,

@@ -11,7 +11,7 @@ use transfer_rules::{State, Transfer};
 // A transfer. Zeros are a closed one.
 // It has sixteen bytes in all, so that it goes in and out in registers.
 #[repr(C)]
-#[derive(Drop)]
+#[derive(Clone, Copy)]
 pub struct TransferNumbers {
     // The length of the buffer that it was begun with.
     pub capacity: usize,
@@ -76,7 +76,7 @@ fn phase_number(kind: TextKind, state: State) -> u8
 }
 
 // The text that a number names.
-#[derive(Drop)]
+#[derive(Clone, Copy)]
 enum TextNumber {
     // The number names this text.
     Known(TextKind),

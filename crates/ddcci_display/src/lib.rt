@@ -24,7 +24,7 @@ pub const NO_CODE: u16 = 256;
 
 // What loading a profile returns.
 #[repr(C)]
-#[derive(Drop)]
+#[derive(Clone, Copy)]
 pub struct DisplayLoaded {
     // The display afterwards.
     pub display: Display,

@@ -12,7 +12,7 @@ use message_rules::answer;
 
 // What a message asked for: its command number, the code, and the value of a Set. What it does not have is 0.
 #[repr(C)]
-#[derive(Drop)]
+#[derive(Clone, Copy)]
 pub struct DisplayAsked {
     pub command: u8,
     pub code: u8,

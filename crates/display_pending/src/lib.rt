@@ -11,7 +11,7 @@ use message_rules::TextKind;
 // What a message leaves to be done to the display. The answer is 0 in all cases but the last.
 // The last three change nothing. Each case has its own `return` in a step, which keeps the display's copies few; so does
 // the distance between the two cases of an accepted Set (docs/PROVING-NOTES.md).
-#[derive(Drop)]
+#[derive(Clone, Copy)]
 pub enum Pending {
     // An accepted Set of a kept code: the value is to be stored at the code.
     Store(u8, u16),

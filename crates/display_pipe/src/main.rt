@@ -66,14 +66,14 @@ const CUT_SETTING: u8 = 7;
 const WRONG_KIND: u8 = 8;
 
 // The display that a record leaves, and whether to go on.
-#[derive(Drop)]
+#[derive(Clone, Copy)]
 struct Obeyed {
     display: Display,
     go: bool,
 }
 
 // A record's kind, the length of its body, and what is wrong with it.
-#[derive(Drop)]
+#[derive(Clone, Copy)]
 struct Head {
     kind: u8,
     len: usize,

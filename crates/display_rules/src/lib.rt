@@ -9,7 +9,7 @@ use settings_rules::Settings;
 
 // The fragment of a text that was sent last (the papers' place of a text).
 #[repr(C)]
-#[derive(Drop)]
+#[derive(Clone, Copy)]
 pub struct FragmentCursor {
     // Where it starts in the text.
     pub offset: TextOffset,
@@ -19,7 +19,7 @@ pub struct FragmentCursor {
 
 // What a display keeps of one of its texts. The bytes are lent to each step.
 #[repr(C)]
-#[derive(Drop)]
+#[derive(Clone, Copy)]
 pub struct TextState {
     // The text's length.
     pub len: u16,
@@ -30,7 +30,7 @@ pub struct TextState {
 // A display.
 // The settings, by far the largest part, stand first, where they are cheaper to copy.
 #[repr(C)]
-#[derive(Drop)]
+#[derive(Clone, Copy)]
 pub struct Display {
     // What is kept for each code, and the timing.
     pub settings: Settings,
@@ -44,7 +44,7 @@ pub struct Display {
 
 // What a start, declaring and many settings in one call return.
 #[repr(C)]
-#[derive(Drop)]
+#[derive(Clone, Copy)]
 pub struct Changed {
     // The display afterwards.
     pub display: Display,
@@ -53,7 +53,7 @@ pub struct Changed {
 }
 
 // The fragment that a step found.
-#[derive(Drop)]
+#[derive(Clone, Copy)]
 pub enum Found {
     // No fragment is sent.
     Nothing,
@@ -70,7 +70,7 @@ pub const TABLE_SENT: u8 = 2;
 // What a step returns, in numbers, so that C and Rust take it as it is. What is not there is 0.
 // The numbers of a fragment stand together, which keeps the display's copies few (docs/PROVING-NOTES.md).
 #[repr(C)]
-#[derive(Drop)]
+#[derive(Clone, Copy)]
 pub struct Stepped {
     // The display afterwards.
     pub display: Display,

@@ -9,7 +9,7 @@ use display_rules::limits::TABLE_ROOM;
 use message_rules::{TABLE_CODE, TextOffset, answer};
 
 // What a write comes to.
-#[derive(Drop)]
+#[derive(Clone, Copy)]
 pub struct Writing {
     // The answer number.
     pub answer: u8,

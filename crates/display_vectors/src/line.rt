@@ -4,7 +4,7 @@
 const NO_DIGIT: u8 = 16;
 
 // What has been read of a line.
-#[derive(Drop)]
+#[derive(Clone, Copy)]
 pub(crate) struct Row {
     // How many pairs stand in front of the "=".
     pub(crate) given: usize,

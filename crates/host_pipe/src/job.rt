@@ -18,7 +18,7 @@ pub(crate) const BRIGHT: u16 = 70;
 const TRIES: usize = 50;
 
 // What a Get brought.
-#[derive(Drop)]
+#[derive(Clone, Copy)]
 pub(crate) struct Got {
     // The host afterwards.
     pub(crate) host: Host,

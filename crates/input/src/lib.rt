@@ -7,7 +7,7 @@ use buffers::{front, least, put};
 const PART: usize = 2048;
 
 // What came of reading an input.
-#[derive(Drop)]
+#[derive(Clone, Copy)]
 pub enum Input {
     // So many bytes, behind which it ended or had no more room.
     Bytes(usize),

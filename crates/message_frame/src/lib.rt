@@ -123,7 +123,7 @@ pub fn body_plain(form: bool, n: usize) -> bool
 
 // The body of a command number: at least so many bytes, the number among them, and at most so much data more.
 // Then whether the length byte in front of it is plain.
-#[derive(Drop)]
+#[derive(Clone, Copy)]
 pub struct Shape(pub usize, pub usize, pub bool);
 
 // Returns whether a body of n bytes is right for the shape.

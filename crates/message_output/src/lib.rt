@@ -8,7 +8,7 @@ ghost use Rattle.message_output.specs.Output.{built_length, BuildsShort, refusal
 use message_rules::{answer, limits};
 
 // What a builder returns.
-#[derive(Drop)]
+#[derive(Clone, Copy)]
 pub enum Built {
     // The message stands at the start of the output, and has this many bytes.
     Done(usize),

@@ -22,7 +22,7 @@ use message_rules::{Address, Direction, Position, ReplyKind, TO_HOST, TextOffset
 
 // What reading a reply comes to: a message with its fields, or the number of a refusal; the null message is 12.
 // Data are `len` bytes of the slice, from the position `at` on.
-#[derive(Drop)]
+#[derive(Clone, Copy)]
 pub enum ReplyRead {
     Value {
         result: u8,

@@ -11,7 +11,7 @@ use message_frame::{Shape, length_right};
 use message_rules::{ReplyKind, answer, limits};
 
 // What a command number and the length of the body come to: the kind of a reply, or a refusal.
-#[derive(Drop)]
+#[derive(Clone, Copy)]
 pub(crate) enum ReplyVerdict {
     Known(ReplyKind),
     Refused(u8),
@@ -19,7 +19,7 @@ pub(crate) enum ReplyVerdict {
 
 // The row of a reply's command number, for a body of some length.
 // It says whether the length byte is plain, and gives the verdict.
-#[derive(Drop)]
+#[derive(Clone, Copy)]
 pub(crate) struct ReplyRow {
     pub(crate) plain: bool,
     pub(crate) verdict: ReplyVerdict,

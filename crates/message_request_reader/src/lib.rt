@@ -17,7 +17,7 @@ use message_rules::{Address, Direction, Position, RequestKind, TextOffset, answe
 
 // What reading a request comes to: a message with its fields, or the number of a refusal.
 // Get has a code, Text an offset. Data are `len` bytes of the slice, from the position `at` on.
-#[derive(Drop)]
+#[derive(Clone, Copy)]
 pub enum RequestRead {
     Get(u8),
     Set {

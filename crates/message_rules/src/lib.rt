@@ -7,7 +7,7 @@ pub mod fields;
 pub mod limits;
 
 // Which way a message goes.
-#[derive(Drop)]
+#[derive(Clone, Copy)]
 pub enum Direction {
     // To the display (the papers' board).
     Request,
@@ -16,7 +16,7 @@ pub enum Direction {
 }
 
 // The pair of address bytes of a message.
-#[derive(Drop)]
+#[derive(Clone, Copy)]
 pub struct Address {
     // The message's first byte.
     pub first: u8,
@@ -39,17 +39,17 @@ pub const TO_HOST: Address = Address {
 // A text offset counts bytes of a whole text.
 // No function takes it for a position.
 #[repr(C)]
-#[derive(Drop)]
+#[derive(Clone, Copy)]
 pub struct TextOffset(pub u16);
 
 // A position counts bytes of one slice: a message, a capabilities string, a profile, a call list (the papers' place).
 // No function takes it for a text offset.
 #[repr(C)]
-#[derive(Drop)]
+#[derive(Clone, Copy)]
 pub struct Position(pub usize);
 
 // The two texts of a display that are sent in fragments.
-#[derive(Drop)]
+#[derive(Clone, Copy)]
 pub enum TextKind {
     // The capabilities string (the papers' capability text).
     Capabilities,
@@ -61,7 +61,7 @@ pub enum TextKind {
 pub const TABLE_CODE: u8 = 0xF4;
 
 // The requests of document 01's table of messages.
-#[derive(Drop)]
+#[derive(Clone, Copy)]
 pub enum RequestKind {
     // 01: asks for the value of a code.
     Get,
@@ -80,7 +80,7 @@ pub enum RequestKind {
 }
 
 // The replies of document 01's table of messages, save the null message.
-#[derive(Drop)]
+#[derive(Clone, Copy)]
 pub enum ReplyKind {
     // 02: the value of a code.
     Value,

@@ -7,7 +7,7 @@ use message_vector_table::fields;
 use message_vector_table::fields::Fields;
 
 // A reading: the answer number, the fields, where data start in the slice, and how many they are.
-#[derive(Drop)]
+#[derive(Clone, Copy)]
 struct Reading(u8, Fields, usize, usize);
 
 // Returns the reading of a message with at most one byte and one word, and data at this index.

@@ -9,13 +9,13 @@ use buffers::{octet, wide16};
 
 // The fields of a message: its command number, at most three single bytes, and at most two 16-bit words.
 // A field that it does not have is 0. Data stand apart.
-#[derive(Drop)]
+#[derive(Clone, Copy)]
 pub struct Fields(pub u8, pub u8, pub u8, pub u8, pub u16, pub u16);
 
 // A row of document 01's table, in this order:
 // whether the command is in the table, and whether the message is a reply;
 // how many single bytes it has, how many bytes of words, and how much data at most.
-#[derive(Drop)]
+#[derive(Clone, Copy)]
 pub struct Shape(pub bool, pub bool, pub u8, pub u8, pub u8);
 
 // Returns the row of a command number. The table is written down once more, and proved to be message_rules' table.

@@ -3,7 +3,7 @@ ghost use Rattle.std.specs.Prelude.{◌≡◌};
 ghost use Rattle.message_vector_table.specs.Tally.{counted, joined};
 
 // How many vectors hold, and how many were tried.
-#[derive(Drop)]
+#[derive(Clone, Copy)]
 pub struct Tally(pub u32, pub u32);
 
 impl Tally {

@@ -36,7 +36,7 @@ pub(crate) const ANSWER: u8 = 2;
 pub(crate) const MALFORMED: u8 = 3;
 
 // What has been read of a line.
-#[derive(Drop)]
+#[derive(Clone, Copy)]
 pub(crate) struct Row {
     // How far it has been read.
     pub(crate) stage: u8,

@@ -20,7 +20,7 @@ const INPUT_ROOM: usize = 16384;
 const LINE_ROOM: usize = 96;
 
 // How far the input has been run.
-#[derive(Drop)]
+#[derive(Clone, Copy)]
 struct Progress {
     // Whether a group has begun.
     begun: bool,

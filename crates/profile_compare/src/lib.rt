@@ -18,7 +18,7 @@ use profile_form_rules::{CODE_AT, RECORD_SIZE, VALUE_AT};
 use records::word;
 
 // What comes next in two profiles that both have a record left.
-#[derive(Drop)]
+#[derive(Clone, Copy)]
 struct Next {
     // The lowest code that does.
     code: u8,

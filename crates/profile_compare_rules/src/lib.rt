@@ -19,7 +19,7 @@ pub const SECOND: u8 = 2;
 
 // What a comparison returns.
 #[repr(C)]
-#[derive(Drop)]
+#[derive(Clone, Copy)]
 pub struct Compared {
     // The answer number: 0, 1 or 17.
     pub answer: u8,

@@ -23,7 +23,7 @@ pub const VALUE_AT: usize = 5;
 pub const LONGEST_PROFILE: usize = 1792;
 
 // How a profile is judged.
-#[derive(Drop)]
+#[derive(Clone, Copy)]
 pub struct Judged {
     // The answer number.
     pub answer: u8,

@@ -7,7 +7,7 @@ use settings_rules::Settings;
 
 // What writing returns.
 #[repr(C)]
-#[derive(Drop)]
+#[derive(Clone, Copy)]
 pub struct Written {
     // The answer number.
     pub answer: u8,
@@ -17,7 +17,7 @@ pub struct Written {
 
 // What loading returns.
 // The settings stand first, where they are cheaper to copy.
-#[derive(Drop)]
+#[derive(Clone, Copy)]
 pub struct Loaded {
     // The settings afterwards.
     pub settings: Settings,

@@ -8,7 +8,7 @@ pub const MOST_SETTINGS: usize = 64;
 
 // What a call leaves of the settings. Of these a Set changes only present values.
 // The values stand first, where they are cheaper to copy.
-#[derive(Drop)]
+#[derive(Clone, Copy)]
 pub struct AllSet {
     // The present values afterwards.
     pub present: [u16; 256],

@@ -2,13 +2,12 @@
 // What they mean stands in specs/, and the theorems in proofs/.
 #![tactic(auto)]
 
-
 // The type of a momentary code; a kept one is 0.
 pub const MOMENTARY: u8 = 1;
 
 // The fields of a Timing reply.
 #[repr(C)]
-#[derive(Drop)]
+#[derive(Clone, Copy)]
 pub struct Timing {
     pub status: u8,
     pub horizontal: u16,
@@ -20,7 +19,7 @@ pub struct Timing {
 // So one proved test reads all five, and codes with several properties are found by whole words.
 // The timing's numbers stand between the arrays, so that fewer bytes are copied (docs/PROVING-NOTES.md).
 #[repr(C)]
-#[derive(Drop)]
+#[derive(Clone, Copy)]
 pub struct Settings {
     pub declared: [u64; 4],
     pub readable: [u64; 4],
@@ -37,7 +36,7 @@ pub struct Settings {
 
 // What is said of a code when it is declared.
 #[repr(C)]
-#[derive(Drop)]
+#[derive(Clone, Copy)]
 pub struct Declaration {
     pub code: u8,
     pub readable: bool,
@@ -51,21 +50,21 @@ pub struct Declaration {
 
 // An answer number, with the settings afterwards.
 // The settings stand first, where they are cheaper to copy.
-#[derive(Drop)]
+#[derive(Clone, Copy)]
 pub struct Change {
     pub settings: Settings,
     pub answer: u8,
 }
 
 // What a Set comes to: an answer number, and whether the value becomes the present one.
-#[derive(Drop)]
+#[derive(Clone, Copy)]
 pub struct Judgement {
     pub answer: u8,
     pub stored: bool,
 }
 
 // The fields of a Value reply.
-#[derive(Drop)]
+#[derive(Clone, Copy)]
 pub struct Feature {
     pub result: u8,
     pub code: u8,

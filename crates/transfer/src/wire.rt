@@ -9,7 +9,7 @@ use message_reply_reader::ReplyRead;
 use message_rules::{Position, TextKind, TextOffset, answer};
 
 // What reading a fragment of one kind returns.
-#[derive(Drop)]
+#[derive(Clone, Copy)]
 pub(crate) enum FragmentRead {
     // Its offset, where its data start in the slice, and how many they are.
     Found(TextOffset, Position, usize),

@@ -8,7 +8,7 @@ use message_rules::{TextKind, TextOffset};
 
 // Whether a transfer runs, or how it closed.
 // The cases stand in the order of the exported numbers, so that the exports turn one into the other for nothing.
-#[derive(Drop)]
+#[derive(Clone, Copy)]
 pub enum State {
     // Closed at its budget: the count met it, and no empty fragment had come.
     Exhausted,
@@ -21,7 +21,7 @@ pub enum State {
 }
 
 // A transfer.
-#[derive(Drop)]
+#[derive(Clone, Copy)]
 pub struct Transfer {
     // Which text it reads.
     pub kind: TextKind,
@@ -38,7 +38,7 @@ pub struct Transfer {
 }
 
 // What beginning a transfer returns.
-#[derive(Drop)]
+#[derive(Clone, Copy)]
 pub struct Begun {
     // The answer number.
     pub answer: u8,
@@ -47,7 +47,7 @@ pub struct Begun {
 }
 
 // What building a transfer's request returns.
-#[derive(Drop)]
+#[derive(Clone, Copy)]
 pub struct Requested {
     // The answer number.
     pub answer: u8,
@@ -56,7 +56,7 @@ pub struct Requested {
 }
 
 // What receiving a reply returns.
-#[derive(Drop)]
+#[derive(Clone, Copy)]
 pub struct Received {
     // The answer number.
     pub answer: u8,

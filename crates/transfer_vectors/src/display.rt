@@ -6,7 +6,7 @@ use message_request_reader::{RequestRead, read_request};
 use message_rules::{TO_DISPLAY, TO_HOST, TextKind, TextOffset};
 
 // The fragment that was sent last.
-#[derive(Drop)]
+#[derive(Clone, Copy)]
 pub(crate) struct Cursor {
     // Where it starts in the text.
     pub(crate) offset: usize,

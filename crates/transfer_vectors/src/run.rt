@@ -18,7 +18,7 @@ const BEFORE: u8 = 0xEE;
 const EXCHANGES: usize = 300;
 
 // How a transfer ended.
-#[derive(Drop)]
+#[derive(Clone, Copy)]
 pub(crate) struct Ended {
     // Its state.
     pub(crate) state: State,
@@ -48,7 +48,7 @@ struct World {
 }
 
 // What is run.
-#[derive(Drop)]
+#[derive(Clone, Copy)]
 struct Setup {
     // The text that is read.
     kind: TextKind,

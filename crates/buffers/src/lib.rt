@@ -2,7 +2,7 @@
 // the end, and bytes that do not fit into a buffer are not put.
 #![tactic(auto)]
 
-ghost use Rattle.std.specs.Prelude.{◌≡◌, [], ◌∷◌, ◌+◌, ◌<◌, ◌≤◌, ◌++◌, length, min, leb, get_or, take, drop};
+ghost use Rattle.std.specs.Prelude.{ℕ, ◌≡◌, ◌≢◌, [], ◌∷◌, ◌+◌, ◌<◌, ◌≤◌, ◌++◌, length, min, leb, get_or, take, drop};
 ghost use Rattle.buffers.specs.Buffers.{part_of, put_whole};
 
 // Returns the byte as a wider number.
@@ -125,4 +125,21 @@ pub fn put_octet(out: &mut [u8], at: usize, b: u8)
     if at < out.len() {
         out[at] = b;
     }
+}
+
+// Returns the index of the first byte b from an index on, or the length where there is none.
+pub fn find(s: &[u8], from: usize, b: u8) -> usize
+    requires { from ≤ length s.now }
+    ensures within { (from ≤ result) × (result ≤ length s.now) }
+    ensures before { (k : ℕ) → from ≤ k → k < result → get_or s.now k 0 ≢ b }
+    ensures found { result < length s.now → get_or s.now result 0 ≡ b }
+{
+    let mut i = from;
+    while i < s.len() {
+        if s[i] == b {
+            return i;
+        }
+        i += 1;
+    }
+    s.len()
 }

@@ -4,7 +4,7 @@
 // An input that cannot be read gives no line on standard output, and one on standard error.
 #![tactic(auto)]
 
-use libc::{STDERR_FILENO, STDIN_FILENO, STDOUT_FILENO};
+use streams::{STDERR_FILENO, STDIN_FILENO, STDOUT_FILENO};
 use message_rules::limits::LONGEST_TEXT;
 
 // Writes the tree, or why there is none.
@@ -15,13 +15,13 @@ fn show_string(string: &[u8]) {
     show_refusal::explain(STDERR_FILENO, b"capabilities_tree: ", string);
 }
 
-fn main() {
+fn main(rt: HostRuntime) {
     // One byte more than the longest string, so that a longer one is seen to be.
     let mut input = [0u8; LONGEST_TEXT + 1];
     let got = io::read_full(STDIN_FILENO, &mut input);
     if got > 0 {
         show_string(&input[..got]);
-    } else if show::input::readable(STDIN_FILENO) {
+    } else if show::input::readable(&rt) {
         show_string(b"");
     } else {
         show::text(

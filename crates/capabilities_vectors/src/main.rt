@@ -6,7 +6,7 @@
 
 use buffers::{front_mut, wide32};
 use capabilities_rules::Reading;
-use libc::STDOUT_FILENO;
+use streams::STDOUT_FILENO;
 
 // The length of the four buffers: more than 512, so that the reader's own limit is seen.
 const ROOM: usize = 600;
@@ -36,8 +36,8 @@ fn wide(x: u16) -> u32 {
 
 // Returns three times the digest plus the value, so that each value counts, and where it stands.
 fn mix(digest: u32, value: u32) -> u32 {
-    let twice = std::num::wrapping_add_u32(digest, digest);
-    std::num::wrapping_add_u32(std::num::wrapping_add_u32(twice, digest), value)
+    let twice = u32::wrapping_add(digest, digest);
+    u32::wrapping_add(u32::wrapping_add(twice, digest), value)
 }
 
 // Returns the digest with a node behind those before it.
@@ -121,11 +121,11 @@ fn none() -> Tally {
 
 // Returns the tally with one string more, which is to be answered as wanted.
 fn tried(t: Tally, text: &[u8], room: usize, wanted: Wanted) -> Tally {
-    let all = std::num::wrapping_add_u64(t.tried, 1);
+    let all = u64::wrapping_add(t.tried, 1);
     if answers(text, room, wanted) {
         return Tally {
             tried: all,
-            right: std::num::wrapping_add_u64(t.right, 1),
+            right: u64::wrapping_add(t.right, 1),
         };
     }
     Tally {

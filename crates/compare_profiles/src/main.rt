@@ -10,7 +10,7 @@ ghost use Rattle.compare_profiles.specs.Parts.{text_room};
 
 use buffers::front;
 use input::Input;
-use libc::STDOUT_FILENO;
+use streams::STDOUT_FILENO;
 use lines::TEXT_ROOM;
 use profile_form_rules::LONGEST_PROFILE;
 

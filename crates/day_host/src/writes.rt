@@ -31,7 +31,7 @@ pub fn message(list: &[u8], k: usize) -> Frame {
 // Writes what came of the writing.
 // Returns whether a display's table is the list, byte for byte.
 pub fn judged(list: &[u8], table: [u8; TABLE_ROOM], stored: usize, sent: usize) -> bool {
-    let same = check::same(list, front(&table, stored));
+    let same = list == front(&table, stored);
     messages::written(WRITES, sent as u64, stored, same);
     same
 }

@@ -29,7 +29,7 @@ pub fn none() -> Tally {
 
 // Returns a sum, which wraps at 2 to the 64.
 fn sum(a: u64, b: u64) -> u64 {
-    std::num::wrapping_add_u64(a, b)
+    u64::wrapping_add(a, b)
 }
 
 // Returns the tally with one more exchange. It counts as spoiled where it was not accepted.

@@ -170,7 +170,7 @@ pub fn judged(r: Reading, number: u64, wanted: &[u8]) -> bool {
     let tally = r.tally;
     let buffer = r.buffer;
     let text = front(&buffer, t.reached.0 as usize);
-    let good = closed_well(t, tally, check::same(wanted, text));
+    let good = closed_well(t, tally, wanted == text);
     let accepted = accepted(kind, number, text);
     if good {
         return accepted;

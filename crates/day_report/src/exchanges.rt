@@ -42,7 +42,7 @@ pub fn exchange(number: u16, from: u16, fate: Fate, came: usize, to: u16, answer
     show::text(OUT, b"   ");
     name(column(fate));
     show::number(OUT, came as u64, 2);
-    show::number(OUT, std::num::wrapping_sub_u64(to as u64, from as u64), 9);
+    show::number(OUT, u64::wrapping_sub(to as u64, from as u64), 9);
     show::answered(OUT, b"   ", answer);
 }
 

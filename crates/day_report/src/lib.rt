@@ -9,7 +9,7 @@ pub mod messages;
 use buffers::{behind, front};
 
 // Where the day is told.
-pub const OUT: i32 = libc::STDOUT_FILENO;
+pub const OUT: i32 = streams::STDOUT_FILENO;
 
 // Returns the index of the next `#` of a line, from this index on, or one behind the line.
 fn mark(line: &[u8], from: usize) -> usize {
@@ -30,7 +30,7 @@ pub fn line(line: &[u8], numbers: &[u64]) {
         let next = mark(line, at);
         show::text(OUT, behind(front(line, next), at));
         show::number(OUT, numbers[k], 0);
-        at = std::num::wrapping_add_usize(next, 1);
+        at = usize::wrapping_add(next, 1);
     }
     show::text(OUT, behind(line, at));
 }

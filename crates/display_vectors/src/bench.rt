@@ -103,10 +103,7 @@ pub(crate) fn step(mut b: Bench, lent: usize, table: usize, room: usize, message
     );
     let after = s.display;
     b.display = after;
-    b.handed = check::same(
-        handed(kept, &buffer, s.text, s.offset, s.count),
-        data_in(&out, s.len),
-    );
+    b.handed = handed(kept, &buffer, s.text, s.offset, s.count) == data_in(&out, s.len);
     b.table = buffer;
     b.out = out;
     b.len = s.len;
@@ -179,7 +176,7 @@ fn read(b: Bench, at: u16) -> Bench {
 // Returns whether the reply carries these data, and they are what was handed back.
 fn carries(b: Bench, data: &[u8]) -> bool {
     let out = b.out;
-    b.handed && check::same(data_in(&out, b.len), data)
+    b.handed && data_in(&out, b.len) == data
 }
 
 // Returns the bench after its table was read whole, fragment after fragment, and the empty one behind them.

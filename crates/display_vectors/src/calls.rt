@@ -71,5 +71,5 @@ pub(crate) fn call(mut b: Bench, given: &[u8]) -> Called {
 pub(crate) fn wrote(answers: [u8; ROOM], due: &[u8]) -> bool {
     let filling = [FILLING; ROOM];
     let n = due.len();
-    check::same(front(&answers, n), due) && check::same(behind(&answers, n), behind(&filling, n))
+    front(&answers, n) == due && behind(&answers, n) == behind(&filling, n)
 }

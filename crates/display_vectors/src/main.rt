@@ -9,7 +9,7 @@ mod line;
 use bench::{Bench, FILLING, OUT_ROOM, TABLE_BUFFER};
 use buffers::{behind, front, front_mut, octet, wide, wide_word};
 use display_rules::Changed;
-use libc::{STDIN_FILENO, STDOUT_FILENO};
+use streams::{STDIN_FILENO, STDOUT_FILENO};
 use settings_rules::{Declaration, Settings, Timing};
 
 // One byte more than the longest input.
@@ -47,12 +47,12 @@ fn holds(out: &[u8], n: usize, bytes: &[u8]) -> bool {
     if n != bytes.len() {
         return false;
     }
-    check::same(front(out, n), bytes) && check::same(behind(out, n), behind(&filling, n))
+    front(out, n) == bytes && behind(out, n) == behind(&filling, n)
 }
 
 // Returns the bench with one row more, and whether it was as expected.
 fn count(mut b: Bench, good: bool) -> Bench {
-    b.rows = std::num::wrapping_add_u32(b.rows, 1);
+    b.rows = u32::wrapping_add(b.rows, 1);
     b.good = b.good && good;
     b
 }
@@ -230,7 +230,7 @@ fn begin(mut b: Bench, s: &[u8]) -> Bench {
     if b.rows != 0 {
         close(b.rows, b.good);
     }
-    let end = bytes::scan::find(s, 0, s.len(), b']');
+    let end = buffers::find(s, 0, b')');
     io::write_all(STDOUT_FILENO, behind(front(s, end), 1));
     b.rows = 0;
     b.good = true;
@@ -243,7 +243,7 @@ fn run_line(b: Bench, s: &[u8]) -> Bench {
         0 => b,
         b'#' => b,
         b'[' => begin(b, s),
-        _ => run_pairs(b, s, bytes::scan::find(s, 0, s.len(), b' ')),
+        _ => run_pairs(b, s, buffers::find(s, 0, b' ')),
     }
 }
 
@@ -251,7 +251,7 @@ fn run_line(b: Bench, s: &[u8]) -> Bench {
 fn run_lines(mut b: Bench, s: &[u8]) -> Bench {
     let mut at = 0;
     while at < s.len() {
-        let end = bytes::scan::find(s, at, s.len(), b'\n');
+        let end = buffers::find(s, at, b'\n');
         let next = run_line(b, &s[at..end]);
         b = next;
         if end == s.len() {

@@ -9,7 +9,7 @@ mod tokens;
 use buffers::front;
 use call_list_rules::limits::LONGEST_LIST;
 use input::Input;
-use libc::{STDERR_FILENO, STDIN_FILENO, STDOUT_FILENO};
+use streams::{STDERR_FILENO, STDOUT_FILENO};
 use tokens::TEXT_ROOM;
 
 // One byte more than the longest list, so that a longer one is seen to be.
@@ -22,9 +22,9 @@ fn write_tokens(list: &[u8]) {
     show::text(STDOUT_FILENO, front(&text, n));
 }
 
-fn main() {
+fn main(rt: HostRuntime) {
     let mut list = [0u8; INPUT_ROOM];
-    let read = input::read_to_end(STDIN_FILENO, &mut list);
+    let read = input::read_to_end(&mut rt.reader(), &mut list);
     match read {
         Input::Bytes(n) => write_tokens(front(&list, n)),
         Input::Failed => show::text(

@@ -1,6 +1,6 @@
 // The records of the pipe, from the host's side.
 use buffers::front_mut;
-use libc::{STDIN_FILENO, STDOUT_FILENO};
+use streams::{STDIN_FILENO, STDOUT_FILENO};
 use message_rules::answer::DONE;
 use message_rules::limits::OUTPUT_ROOM;
 
@@ -143,7 +143,7 @@ pub(crate) fn exchange(mut h: Host, kind: u8, body: &[u8]) -> Host {
     if h.fault != NONE {
         return h;
     }
-    h.records = std::num::wrapping_add_u64(h.records, 1);
+    h.records = u64::wrapping_add(h.records, 1);
     if write_record(kind, body) {
         return read_record(h);
     }

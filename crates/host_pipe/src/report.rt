@@ -5,7 +5,7 @@ use crate::pipe::Host;
 use crate::read::Reading;
 use crate::{pipe, read};
 use buffers::front;
-use libc::STDERR_FILENO;
+use streams::STDERR_FILENO;
 use transfer_rules::Transfer;
 
 // Where the report goes.
@@ -87,7 +87,7 @@ fn ended(what: &[u8], t: Transfer, same: bool) -> bool {
 fn compared(what: &[u8], r: Reading, wanted: &[u8]) -> bool {
     let t = r.transfer;
     let buffer = r.buffer;
-    let same = check::same(wanted, front(&buffer, t.reached.0 as usize));
+    let same = wanted == front(&buffer, t.reached.0 as usize);
     ended(what, t, same)
 }
 

@@ -2,6 +2,7 @@
 #![tactic(auto)]
 
 use buffers::{front, least, put};
+use std::io::Read;
 
 // The most bytes of one read.
 const PART: usize = 2048;
@@ -15,17 +16,17 @@ pub enum Input {
     Failed,
 }
 
-// Reads an input, by its descriptor, into a buffer, until it ends or the buffer is full.
+// Reads an input into a buffer, until it ends or the buffer is full.
 // A buffer with one byte more than may come tells an input that is too long.
-pub fn read_to_end(from: i32, input: &mut [u8]) -> Input {
+pub fn read_to_end<R: Read>(from: &mut R, input: &mut [u8]) -> Input {
     let mut part = [0u8; PART];
     let mut at: usize = 0;
     while at < input.len() {
-        let got = libc::read(from, &mut part);
-        if got < 0 {
-            return Input::Failed;
-        }
-        let n = least(io::count(got, &part), input.len() - at);
+        let got = match from.read(&mut part) {
+            Ok(got) => got,
+            Err(_) => return Input::Failed,
+        };
+        let n = least(got, input.len() - at);
         if n == 0 {
             return Input::Bytes(at);
         }

@@ -61,7 +61,7 @@ fn blank_from(out: &[u8], at: usize) -> bool {
 
 // Returns whether an output that was blank holds exactly the bytes s in its first n, and no other byte changed.
 fn holds(out: &[u8], n: usize, s: &[u8]) -> bool {
-    if check::same(fields::part(out, 0, n), s) {
+    if fields::part(out, 0, n) == s {
         return blank_from(out, n);
     }
     false

@@ -11,9 +11,9 @@ impl Tally {
     pub fn count(self, holds: bool) -> Tally
         ensures { result ≡ counted self holds }
     {
-        let tried = std::num::wrapping_add_u32(self.1, 1);
+        let tried = u32::wrapping_add(self.1, 1);
         if holds {
-            return Tally(std::num::wrapping_add_u32(self.0, 1), tried);
+            return Tally(u32::wrapping_add(self.0, 1), tried);
         }
         Tally(self.0, tried)
     }
@@ -22,7 +22,7 @@ impl Tally {
     pub fn join(self, other: Tally) -> Tally
         ensures { result ≡ joined self other }
     {
-        let held = std::num::wrapping_add_u32(self.0, other.0);
-        Tally(held, std::num::wrapping_add_u32(self.1, other.1))
+        let held = u32::wrapping_add(self.0, other.0);
+        Tally(held, u32::wrapping_add(self.1, other.1))
     }
 }

@@ -7,7 +7,7 @@ mod line;
 mod setting;
 mod values;
 
-use libc::{STDERR_FILENO, STDIN_FILENO, STDOUT_FILENO};
+use streams::{STDERR_FILENO, STDIN_FILENO, STDOUT_FILENO};
 use message_vector_checks::{damage, table, vector};
 use message_vector_table::fields;
 use message_vector_table::fields::Fields;
@@ -83,7 +83,7 @@ fn verdict(t: Tally) {
         io::write_all(STDOUT_FILENO, b" vectors hold\n");
         return;
     }
-    say(STDOUT_FILENO, b"", std::num::wrapping_sub_u32(t.1, t.0));
+    say(STDOUT_FILENO, b"", u32::wrapping_sub(t.1, t.0));
     say(STDOUT_FILENO, b" of ", t.1);
     io::write_all(STDOUT_FILENO, b" vectors fail\n");
 }
@@ -165,7 +165,7 @@ fn run_pairs(p: Progress, command: u8, row: line::Row, octets: &[u8]) -> Progres
 fn run_vector(p: Progress, s: &[u8]) -> Progress {
     let mut space = [0u8; LINE_ROOM];
     let octets: &mut [u8] = &mut space;
-    let end = bytes::scan::find(s, 0, s.len(), b' ');
+    let end = buffers::find(s, 0, b' ');
     let row = line::pairs(&s[end..], octets);
     let command = line::command(&s[0..end]);
     run_pairs(p, command, row, octets)
@@ -181,10 +181,10 @@ fn run_line(p: Progress, s: &[u8], at: usize, end: usize) -> Progress {
         return p;
     }
     if first == b'[' {
-        let last = bytes::scan::find(text, 0, text.len(), b']');
-        if std::num::wrapping_add_usize(last, 1) == text.len() {
-            let name = std::num::wrapping_add_usize(at, 1);
-            let name_end = std::num::wrapping_add_usize(at, last);
+        let last = buffers::find(text, 0, b')');
+        if usize::wrapping_add(last, 1) == text.len() {
+            let name = usize::wrapping_add(at, 1);
+            let name_end = usize::wrapping_add(at, last);
             return begin(p, s, name, name_end);
         }
         return stop(p);
@@ -198,7 +198,7 @@ fn run_line(p: Progress, s: &[u8], at: usize, end: usize) -> Progress {
 // Returns how many vectors have failed so far, and damaged variants and outputs with them.
 fn failed(p: Progress) -> u32 {
     let all = p.total.join(p.group).join(p.room).join(p.damaged);
-    std::num::wrapping_sub_u32(all.1, all.0)
+    u32::wrapping_sub(all.1, all.0)
 }
 
 // Writes a line's number and what is said of it, then its text.
@@ -227,9 +227,9 @@ fn run_lines(mut p: Progress, s: &[u8]) -> Progress {
     let mut at = 0;
     let mut number = 0u32;
     while at < s.len() {
-        let end = bytes::scan::find(s, at, s.len(), b'\n');
+        let end = buffers::find(s, at, b'\n');
         let before = failed(p);
-        number = std::num::wrapping_add_u32(number, 1);
+        number = u32::wrapping_add(number, 1);
         if at < end {
             let next = run_line(p, s, at, end);
             p = next;

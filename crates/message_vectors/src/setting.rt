@@ -21,8 +21,8 @@ fn range(code: u8, high: u8, low: u8, high_step: u8, low_step: u8, more: u8) -> 
     for _ in 0..=more {
         let next = sum.count(holds(code, h, l));
         sum = next;
-        h = std::num::wrapping_add_u8(h, high_step);
-        l = std::num::wrapping_add_u8(l, low_step);
+        h = u8::wrapping_add(h, high_step);
+        l = u8::wrapping_add(l, low_step);
     }
     sum
 }
@@ -50,7 +50,7 @@ pub(crate) fn row(f: &[u8], s: &[u8]) -> Tally {
     let high = buffers::octet(f, 1);
     let low = buffers::octet(f, 2);
     let printed = [0x51, 0x84, 0x03, code, high, low];
-    if !check::same(s, &printed) {
+    if s != &printed {
         return Tally(0, 1);
     }
     if f.len() == 3 {

@@ -144,6 +144,7 @@ module _ (a b : List Setting) where
 
 -- the code of a line is not below the lowest
 line-above : (lowest : ℕ) (ds : List Difference) (d : Difference) → Rising lowest (listed_codes ds) → Stands d ds → lowest ≤ d.code
+line-above lowest [] d _ x3 = elim x3 [ ]
 line-above lowest (e ∷ ds) d (more l r) here = l
 line-above lowest (e ∷ ds) d (more l r) (later s) = omega (arith, line-above (suc e.code) ds d r s)
 

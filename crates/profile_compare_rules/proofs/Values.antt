@@ -65,10 +65,12 @@ shows (e ∷ es) c = go (eqb e.code c) refl (shows es c)
 
 -- and nothing else, where no code stands twice
 stands_above : (lowest : ℕ) (es : List Setting) (e : Setting) → Rising lowest (codes_of es) → Stands e es → lowest ≤ e.code
+stands_above lowest [] e _ x3 = elim x3 [ ]
 stands_above lowest (f ∷ es) e (more l r) here = l
 stands_above lowest (f ∷ es) e (more l r) (later s) = omega (arith, stands_above (suc f.code) es e r s)
 
 pub stands_value : (lowest : ℕ) (es : List Setting) (e : Setting) → Rising lowest (codes_of es) → Stands e es → value_of es e.code ≡ e.value
+stands_value lowest [] e _ x3 = elim x3 [ ]
 stands_value lowest (f ∷ es) e (more l r) here = value-here e es e.code refl
 stands_value lowest (f ∷ es) e (more l r) (later s) =
     value-later f es e.code (λ q. omega (arith, stands_above (suc f.code) es e r s)) ∙ stands_value (suc f.code) es e r s

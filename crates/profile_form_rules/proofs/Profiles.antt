@@ -57,6 +57,7 @@ lowest_up lowest (e ∷ es) (more l r) = omega (arith, lowest_up (suc e.code) es
 -- it is above every code so far ..
 pub stands_below : (lowest : ℕ) (es : List Setting) (c : ℕ) → Rising lowest (codes_of es) → Stands c (codes_of es) → c < lowest_after lowest es
 unfolding lowest_after
+stands_below lowest [] c _ x3 = elim x3 [ ]
 stands_below lowest (e ∷ es) c (more l r) here = omega (arith, lowest_up (suc c) es r)
 stands_below lowest (e ∷ es) c (more l r) (later s) = stands_below (suc e.code) es c r s
 

@@ -4,7 +4,7 @@ use mathlib.Core.Bool.{Bool, true, false, cond, not, ◌&&◌, true≢false}
 use mathlib.Core.List.{List, ◌∷◌}
 use Prim.Native.Nat.{ℕ, zero, suc, ◌+◌, ◌≤◌}
 use native.Mathlib.Omega.{arith}
-use borrow.Author.Tests.{not_true}
+use borrow.Author.Tests.{not-true}
 use Rattle.settings_rules.specs.Entries.{entry_of}
 use Rattle.settings_rules.specs.declared.Settings.{Settings}
 use Rattle.settings_rules.proofs.Answers.{both}
@@ -33,7 +33,7 @@ inside_of s c e =
     let a = both (entry_of s c).declared _ e in
     let b = both (entry_of s c).readable _ a.1 in
     let d = both (entry_of s c).writable _ b.1 in
-    record { declared = a.0; readable = b.0; writable = d.0; kept = not_true _ d.1 }
+    record { declared = a.0; readable = b.0; writable = d.0; kept = not-true _ d.1 }
 
 codes_up : {s : Settings} {c : ℕ} {cs : List ℕ} → CodesFrom s c cs → c ≤ 256
 codes_up end = omega arith

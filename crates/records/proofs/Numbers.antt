@@ -6,7 +6,6 @@ use native.Mathlib.Nat.{div-add-mod'}
 use native.Mathlib.Omega.{arith}
 use lib.ListN.{length, get_or, take, drop, get_or-eq_default}
 use lib.Seq.{get_or-append-add, get_or-drop, drop-cons}
-use Rattle.checksum.specs.Bytes.{Bytes}
 use Rattle.checksum.proofs.Bytes.{bytes-at}
 use Rattle.records.specs.Numbers.{little_endian, number_at, word_at, long_at}
 use Rattle.records.specs.Statements.{LowFirst, AsWide, NumberBack, BytesBack}

@@ -2,14 +2,14 @@
 -- a length that counts itself (so that a record may be cut), a kind that nothing looks at, a length that is written so
 -- that it counts the whole record.
 use mathlib.Core.Path.{◌≡◌, refl, ap}
-use mathlib.Core.Bool.{Bool, true, ◌&&◌}
+use mathlib.Core.Bool.{◌&&◌}
 use mathlib.Core.List.{List, [], ◌∷◌, ◌++◌}
-use Prim.Native.Nat.{ℕ, zero, suc, ◌+◌, ◌*◌, ◌/◌, ◌%◌, ◌<◌}
+use Prim.Native.Nat.{ℕ, zero, suc, ◌+◌, ◌*◌, ◌/◌, ◌%◌}
 use native.Mathlib.Omega.{arith}
 use lib.ListN.{length, get_or, length-append}
 use lib.Dec.{leb, eqb}
-use Rattle.checksum.specs.Bytes.{Bytes, none, more}
-use Rattle.records.specs.Numbers.{little_endian, number_at, word_at}
+use Rattle.checksum.specs.Bytes.{none, more}
+use Rattle.records.specs.Numbers.{little_endian, word_at}
 use Rattle.records.specs.Records.{begins_with}
 use Rattle.records.specs.Statements.{BytesRule, NumberRule, LowFirst, NumberBack, BeginsRule, BeginsExactly, WriteRule, WritesRecord}
 

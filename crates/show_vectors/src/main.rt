@@ -2,7 +2,7 @@
 // numbers that the papers do not have; a tree; and refused capabilities strings with why they are refused.
 #![tactic(auto)]
 
-use libc::STDOUT_FILENO;
+use streams::STDOUT_FILENO;
 
 const TO: i32 = STDOUT_FILENO;
 

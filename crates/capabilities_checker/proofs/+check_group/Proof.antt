@@ -8,7 +8,7 @@ use mathlib.Core.List.{List}
 use native.Mathlib.Omega.{arith}
 use lib.ListN.{length, get_or}
 use borrow.Author.Rules.{rules}
-use borrow.Author.Tests.{eqb-true, eqb-false, not_true, not-false}
+use borrow.Author.Tests.{eqb-true, eqb-false, not-true, not-false}
 use borrow.Fn.Kinds.{In}
 use borrow.Fn.PlainCycle.{Measures, is, falls, and}
 use Rattle.capabilities_rules.specs.Machine.{kind_of, is_letter}
@@ -100,7 +100,7 @@ check-group-returns-2 t c =
     let x = c.before.before.before.before.before.before.before.before.before.before.args in
     let s : List ℕ = x.text.now in
     from_start x.room (around x.left) x.start.0 x.count c.before.before.before.before.before.before.before.before.skip-spaces.result.0 s _ c.before.before.before.before.before.before.before.before.skip-spaces.ensures
-    (at_other x.room (around x.left) c.before.before.before.before.before.before.before.before.skip-spaces.result.0 x.count l.at.0 l.n s l.invariant c.before.before.before.before.before.if1.true c.before.before.before.if2.false (sym c.before.is-letter.ensures ∙ not_true _ c.if3.true))
+    (at_other x.room (around x.left) c.before.before.before.before.before.before.before.before.skip-spaces.result.0 x.count l.at.0 l.n s l.invariant c.before.before.before.before.before.if1.true c.before.before.before.if2.false (sym c.before.is-letter.ensures ∙ not-true _ c.if3.true))
 
 check-group-returns-3 : (t : ℕ) → check-group-lts.Need-returns-3 (given t) (check-group-at t) check-group.Post check-group-Inv-loop check-group-μ-loop
 check-group-returns-3 t c =

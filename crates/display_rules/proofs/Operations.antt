@@ -10,7 +10,7 @@ use borrow.Author.Tests.{eq-eqb, ne_eqb, le-leb}
 use Rattle.checksum.specs.Bytes.{Bytes, more}
 use Rattle.message_rules.specs.Body.{encode_body}
 use Rattle.message_rules.specs.Limits.{output_room}
-use Rattle.message_rules.specs.Message.{Request, get_feature, set_feature, timing, save, text, Reply, value, timing_reply, reply_body, replies, requests, encode, Valid, null, to_display, to_host}
+use Rattle.message_rules.specs.Message.{Request, get_feature, set_feature, timing, save, value, timing_reply, reply_body, replies, requests, encode, Valid, null, to_display, to_host}
 use Rattle.message_rules.specs.declared.Direction.TheVariants as way
 use Rattle.message_rules.proofs.Order.{null-read}
 use Rattle.message_rules.proofs.Frames.{length-frame}

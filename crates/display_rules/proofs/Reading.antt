@@ -1,6 +1,6 @@
 -- A read answers 0, moves the cursor by the paper's four sentences, and sends the bytes of the whole text from there.
 use mathlib.Core.Path.{◌≡◌, refl, sym, ap, ◌∙◌}
-use mathlib.Core.Logic.{◌⊎◌, ⊎_elim}
+use mathlib.Core.Logic.{⊎_elim}
 use mathlib.Core.Bool.{Bool, true, false, cond, ◌||◌}
 use mathlib.Core.List.{List, [], ◌∷◌, append-nil}
 use Prim.Native.Nat.{ℕ, zero, suc, ◌+◌, ◌-◌, ◌<◌}
@@ -11,7 +11,7 @@ use lib.Dec.{eqb}
 use borrow.Author.Tests.{eq-eqb, ne_eqb}
 use Rattle.checksum.specs.Bytes as bytes
 use Rattle.message_rules.specs.Body as body
-use Rattle.message_rules.specs.Message.{Request, requests, decode, encode, text, Valid, to_display}
+use Rattle.message_rules.specs.Message.{Request, requests, decode, encode, Valid, to_display}
 use Rattle.message_rules.specs.Read.{ok}
 use Rattle.message_rules.proofs.RoundTrip.{requests_round}
 use Rattle.message_rules.specs.Message.{table_code}

@@ -4,7 +4,7 @@
 -- ones. This file has 1, the reader's refusals, Get, Set, Save and Timing.
 use Rattle.std.specs.Prelude.{ℕ, ◌≤◌, ◌<◌, ◌≡◌, true, false, List, [], ◌∷◌, length, take, drop}
 use Rattle.checksum.specs.Bytes.{Bytes}
-use Rattle.message_rules.specs.Message.{Request, get_feature, set_feature, timing, save, text, Reply, value, timing_reply, requests, replies, encode, decode, to_display, to_host}
+use Rattle.message_rules.specs.Message.{Request, get_feature, set_feature, timing, save, Reply, value, timing_reply, requests, replies, encode, decode, to_display, to_host}
 use Rattle.message_rules.specs.Read.{ok, refused}
 use Rattle.settings_rules.specs.Entries.{entry_of, Sized}
 use Rattle.settings_rules.specs.Operations.{Sets, Saves}

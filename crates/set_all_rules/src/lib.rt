@@ -2,7 +2,6 @@
 // What they mean stands in specs/, and the theorems in proofs/.
 #![tactic(auto)]
 
-
 // The most settings of one call.
 pub const MOST_SETTINGS: usize = 64;
 

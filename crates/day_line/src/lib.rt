@@ -27,7 +27,7 @@ pub enum Fate {
 }
 
 // A message as it goes over a line.
-#[derive(Drop)]
+#[derive(Clone, Copy)]
 pub struct Frame {
     // Its bytes, which stand in front.
     pub bytes: [u8; OUTPUT_ROOM],
@@ -81,6 +81,7 @@ pub fn draw(seed: u64) -> Fate
 }
 
 // Returns a frame with the same bytes, of which only the first n count.
+#[tactic(auto, unfolding(crate::specs::Line::cut))]
 fn cut(f: Frame, n: usize) -> Frame
     ensures { result ≡ rules.cut f n }
 {
@@ -117,6 +118,7 @@ fn below(n: usize, seed: u64) -> usize
 }
 
 // Returns the bytes with one bit of the byte at this position turned over.
+#[tactic(auto, unfolding(crate::specs::Line::flip))]
 fn flip(mut bytes: [u8; OUTPUT_ROOM], at: usize) -> [u8; OUTPUT_ROOM]
     ensures { result ≡ rules.flip bytes at }
 {
@@ -128,6 +130,7 @@ fn flip(mut bytes: [u8; OUTPUT_ROOM], at: usize) -> [u8; OUTPUT_ROOM]
 }
 
 // Returns a reply with one bit of it turned over.
+#[tactic(auto, unfolding(crate::specs::Line::flipped))]
 fn flipped(reply: Frame, seed: u64) -> Frame
     ensures { result ≡ rules.flipped reply seed }
 {

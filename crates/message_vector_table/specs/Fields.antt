@@ -1,5 +1,5 @@
 -- Parts of a line, and the fields that stand in it.
-use Rattle.std.specs.Prelude.{ℕ, ◌+◌, ◌-◌, ◌*◌, cond, ◌&&◌, List, [], length, nat_le, slice_index, slice_range}
+use Rattle.std.specs.Prelude.{ℕ, ◌+◌, ◌*◌, cond, ◌&&◌, List, [], length, nat_le, slice_index, slice_range}
 use Rattle.message_vector_table.specs.declared.fields.Fields.{Fields}
 
 -- the bytes from start to end, or none where there is no such part

@@ -20,7 +20,7 @@ use Rattle.display_rules.specs.Kept.{Kept, step_kept}
 use Rattle.display_rules.specs.Statements as made
 use Rattle.display_rules.specs.Statements.{whole}
 use Rattle.display_rules.specs.declared.Display.{Display}
-use Rattle.transfer_rules.specs.Exchange.{rules, World, after_all}
+use Rattle.transfer_rules.specs.Exchange.{rules, after_all}
 use Rattle.transfer_rules.specs.Demand3.{start_of}
 use Rattle.records.specs.Records.{begins_with}
 use Rattle.call_list_rules.specs.CallList.{among, record_answer, first_refused, check_list, entry_of}

@@ -8,7 +8,6 @@ use native.Mathlib.Omega.{arith}
 use lib.Dec.{ltb}
 use lib.ListN.{get_or}
 use Rattle.message_rules.specs.declared.Address.{Address}
-use Rattle.message_rules.specs.declared.Direction.{Direction}
 use Rattle.message_rules.specs.declared.Direction.TheVariants as way
 use Rattle.message_rules.specs.Read.{refused}
 use Rattle.message_rules.specs.Row.{Kind, Layout, Known}

@@ -1,6 +1,6 @@
 -- What a builder accepts is what is valid, and it is read as it was built.
 -- Assumes nothing.
-use Prim.Native.Nat.{ℕ, ◌≤◌}
+use Prim.Native.Nat.{ℕ}
 use mathlib.Core.Path.{◌≡◌, refl, sym, ap, ap₂, ◌∙◌}
 use mathlib.Core.Bool.{Bool, true, false, cond, ◌&&◌}
 use mathlib.Core.List.{List, [], ◌++◌, append-nil}
@@ -23,7 +23,6 @@ use Rattle.message_rules.proofs.Tests.{and_true}
 use Rattle.buffers.specs.Buffers.{over}
 use Rattle.message_output.specs.Output.{admits}
 use Rattle.message_output.specs.Accepts.{Typed, AcceptsExactly, ReadsBack}
-use Rattle.message_output.specs.declared.Built.{Built}
 use Rattle.message_output.specs.declared.Built.TheVariants.{Done, Refused}
 
 both : {x y : Bool} → x ≡ true → y ≡ true → x && y ≡ true

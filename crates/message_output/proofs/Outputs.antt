@@ -7,7 +7,7 @@ use mathlib.Core.Bool.{Bool, true, false, cond, ◌&&◌}
 use lib.Dec.{leb}
 use native.Mathlib.Omega.{arith}
 use lib.ListN.{length, get_or, take, drop, set, length-append, length-drop, drop_of_length-le}
-use lib.Seq.{take_all, take-length, drop-cons, set_at, append_snoc}
+use lib.Seq.{take_all, drop-cons, set_at, append_snoc}
 use borrow.Rule.Slice.PartMut.{mid_of, post_of, put_mid, Post-is}
 use borrow.Author.Tests.{le-leb, lt-leb}
 use Rattle.checksum.specs.Xor.{xor_all}
@@ -98,13 +98,13 @@ short-refused allowed s out e r q = builds-refused (leb (length s) output_room &
 -- what `build` leaves: the head, the data in the part behind it, and the checksum of both behind them
 pub built : (seed sum at more end r : ℕ) (x y out p ys o : List ℕ) → length x + length y < length out
     → sum ≡ xor_all (xor_all seed x) y
-    → at ≡ length x → p ≡ take (length x) x ++ drop (length x) out → end ≡ length p
-    → more ≡ length y → ys ≡ take (length y) y ++ drop (length y) (mid_of at (end - at) p)
+    → at ≡ length x → p ≡ x ++ drop (length x) out → end ≡ length p
+    → more ≡ length y → ys ≡ y ++ drop (length y) (mid_of at (end - at) p)
     → r ≡ at + more + 1 → o ≡ set (put_mid at (end - at) p ys) (at + more) sum
     → (r ≡ length (closed seed (x ++ y))) × (o ≡ over (closed seed (x ++ y)) out)
 built seed sum at more end r x y out p ys o h s a e l m f q g =
-    let e1 : p ≡ over x out = e ∙ ap (λ (t : List ℕ). t ++ drop (length x) out) (take-length x) in
-    let f1 : ys ≡ over y (mid_of at (end - at) p) = f ∙ ap (λ (t : List ℕ). t ++ drop (length y) (mid_of at (end - at) p)) (take-length y) in
+    let e1 : p ≡ over x out = e in
+    let f1 : ys ≡ over y (mid_of at (end - at) p) = f in
     let n : length (x ++ y) ≡ at + more = omega (arith, length-append x y) in
     let w : length p ≡ length out = ap length e1 ∙ simp (length-append, length-drop) (omega arith) in
     let put : put_mid at (end - at) p ys ≡ over (x ++ y) out = part_next out x y p ys at end e1 a (omega arith) l f1 in (

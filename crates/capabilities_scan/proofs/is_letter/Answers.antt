@@ -8,8 +8,7 @@ use borrow.Author.Tests.{le-leb, ne_eqb}
 use Rattle.capabilities_rules.specs.Machine.{kind_of, is_letter}
 use Rattle.capabilities_rules.specs.Kinds.{Letter, Other}
 use Rattle.capabilities_rules.proofs.Bytes.{not_letter}
-use Rattle.capabilities_scan.proofs.is_letter.Statement.{statement}
-use Rattle.capabilities_scan.proofs.is_letter.Tie as tie
+use Rattle.capabilities_scan.proofs.is_letter.Goals as goal
 
 up-to-last : (b : ℕ) → 0x21 ≤ b → (b ≡ 0x28 → ⊥) → (b ≡ 0x29 → ⊥) → is_letter (kind_of b) ≡ leb b 0x7e
 unfolding kind_of
@@ -19,17 +18,14 @@ up-to-last b low no-open no-close = rw (ne_eqb b 0x28 no-open, ne_eqb b 0x29 no-
     go true = refl
     go false = refl
 
-returns : tie.Need-returns
-returns c = sym (not_letter c.before.args.b (λ l. let h = l.low in omega arith))
+pub returns-then-b-lt-FIRST_LETTER : goal.returns-then-b-lt-FIRST_LETTER
+returns-then-b-lt-FIRST_LETTER c = sym (not_letter c.args.b (λ l. let h = l.low in omega arith))
 
-returns-2 : tie.Need-returns-2
-returns-2 c = sym (not_letter c.before.before.args.b (λ l. l.no-close c.if2.true))
+pub returns-then-b-eq-CLOSE : goal.returns-then-b-eq-CLOSE
+returns-then-b-eq-CLOSE c = sym (not_letter c.args.b (λ l. l.no-close c.if-b-eq-CLOSE.true))
 
-returns-3 : tie.Need-returns-3
-returns-3 c = sym (not_letter c.before.before.before.args.b (λ l. l.no-open c.if3.true))
+pub returns-then-b-eq-OPEN : goal.returns-then-b-eq-OPEN
+returns-then-b-eq-OPEN c = sym (not_letter c.args.b (λ l. l.no-open c.if-b-eq-OPEN.true))
 
-returns-4 : tie.Need-returns-4
-returns-4 c = sym (up-to-last c.before.before.before.args.b (omega arith) c.if3.false c.before.if2.false)
-
-pub is-letter-spec : {M : Type 1} → statement M
-is-letter-spec = tie.close (tie.spec returns returns-2 returns-3 returns-4)
+pub returns : goal.returns
+returns c = sym (up-to-last c.args.b (omega arith) c.if-b-eq-OPEN.false c.if-b-eq-CLOSE.false)

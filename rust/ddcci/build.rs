@@ -1,4 +1,4 @@
-//! Links the proved static libraries, which `rt staticlib ddcci` and `rt staticlib ddcci_display` write to
+//! Links the proved static libraries, which `tools/build ddcci` and `tools/build ddcci_display` write to
 //! `target/staticlib/`.
 use std::path::Path;
 
@@ -10,7 +10,7 @@ fn main() {
         let archive = folder.join(format!("lib{name}.a"));
         if !archive.exists() {
             println!(
-                "cargo:warning={} is missing: run `rt staticlib {name}` in the repository first",
+                "cargo:warning={} is missing: run `tools/build {name}` in the repository first",
                 archive.display()
             );
         }

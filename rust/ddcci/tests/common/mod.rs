@@ -6,10 +6,10 @@ use oracle::message as slow;
 use std::path::{Path, PathBuf};
 use std::process::Command;
 
-/// A program that `rt check` has built.
+/// A program that `tools/build` has built.
 pub fn program(name: &str) -> PathBuf {
     let path = Path::new(env!("CARGO_MANIFEST_DIR")).join("../../target/bin").join(name);
-    assert!(path.exists(), "{} is missing: run `rt check {name}` in the repository first", path.display());
+    assert!(path.exists(), "{} is missing: run `tools/build {name}` in the repository first", path.display());
     path
 }
 

@@ -11,7 +11,7 @@ use Rattle.checksum.specs.Bytes.{Bytes}
 use Rattle.codes.specs.Codes.{all_codes}
 use Rattle.profile_form_rules.specs.Records.{record_size}
 use Rattle.profile_form_rules.specs.Form.{Setting, settings_of}
-use Rattle.profile_compare_rules.specs.Compare.{Difference}
+use Rattle.profile_compare_rules.specs.Compare.{absent, Difference}
 use Rattle.profile_compare_rules.specs.Statements.{difference}
 use Rattle.profile_compare_rules.proofs.Differences.{lines-few}
 use Rattle.profile_compare.specs.Parts.{Accepted, list_of, next_in, settings_from}
@@ -25,6 +25,11 @@ use Rattle.profile_compare.proofs.Walk.{Walk, walk_starts, walk_same, walk-diffe
 pub record Counted (s t : List ℕ) (i j n : ℕ) (rest : List Difference) : Type 0 where
   pub walk : Walk s t i j rest
   pub counted : n + length rest ≡ length (list_of s t)
+
+-- some are still to come
+pub record Counting (s t : List ℕ) (i j n : ℕ) : Type 0 where
+  pub rest : List Difference
+  pub so_far : Counted s t i j n rest
 
 -- there are at most 256
 pub list-few : (s t : List ℕ) → length (list_of s t) ≤ 256
@@ -102,6 +107,19 @@ module _ {A : Type 0} (f : A → ℕ) (all out₀ out : List ℕ) (n : ℕ) (res
             ∙ ap (λ (xs : List A). put out n (map f xs)) (sym e)
             ∙ c.there;
       }
+
+-- ---- what is left of one profile, listed
+
+-- a column of what was there, with the records from `from` on put from an entry on
+abbrev pub ColumnOf : (f : Setting → ℕ) (s : List ℕ) (from entry : ℕ) (out₀ out : List ℕ) (at n : ℕ) → Type 0
+ColumnOf f s from entry out₀ out at n = Column f (put out₀ entry (map f (settings_from s from))) out₀ out n (settings_from s at)
+
+pub record Resting (s : List ℕ) (from entry : ℕ) (codes₀ values₀ others₀ codes values others : List ℕ) (at n : ℕ) : Type 0 where
+  pub inside : at ≤ length s
+  pub counted : n + length (settings_from s at) ≡ entry + length (settings_from s from)
+  pub codes_in : ColumnOf (λ (e : Setting). e.code) s from entry codes₀ codes at n
+  pub values_in : ColumnOf (λ (e : Setting). e.value) s from entry values₀ values at n
+  pub others_in : ColumnOf (λ (e : Setting). absent) s from entry others₀ others at n
 
 -- ---- the three columns
 

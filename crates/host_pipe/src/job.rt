@@ -7,6 +7,7 @@ use message_output::length_of;
 use message_reply_reader::{ReplyRead, read_display_reply};
 use message_rules::limits::{MOST_WRITTEN, OUTPUT_ROOM};
 use message_rules::{TABLE_CODE, TO_DISPLAY, TextOffset};
+use std::io::Input;
 
 // The VCP code of brightness.
 const BRIGHTNESS: u8 = 0x10;
@@ -29,34 +30,34 @@ pub(crate) struct Got {
 }
 
 // Sends a start, then declares brightness (80 of 100) and input (17, not continuous).
-pub(crate) fn start(mut h: Host, record: &[u8]) -> Host {
-    h = pipe::tell(h, pipe::START, record);
-    h = pipe::tell(h, pipe::DECLARE, b"\x10\x01\x01\x00\x01\x64\x00\x50\x00");
-    pipe::tell(h, pipe::DECLARE, b"\x60\x01\x01\x00\x00\x00\x00\x11\x00")
+pub(crate) fn start(rt: &impl Input, mut h: Host, record: &[u8]) -> Host {
+    h = pipe::tell(rt, h, pipe::START, record);
+    h = pipe::tell(rt, h, pipe::DECLARE, b"\x10\x01\x01\x00\x01\x64\x00\x50\x00");
+    pipe::tell(rt, h, pipe::DECLARE, b"\x60\x01\x01\x00\x00\x00\x00\x11\x00")
 }
 
 // Sends a Table write of the list's bytes from the offset `at` on.
-fn write_part(h: Host, list: &[u8], at: usize) -> Host {
+fn write_part(rt: &impl Input, h: Host, list: &[u8], at: usize) -> Host {
     let mut m = [0u8; OUTPUT_ROOM];
     let offset = TextOffset((at % 65536) as u16);
     let data = front(behind(list, at), MOST_WRITTEN);
     let built = message_request_builder::build_table_write(
         TO_DISPLAY, TABLE_CODE, offset, data, &mut m,
     );
-    pipe::tell(h, pipe::MESSAGE, front(&m, length_of(built)))
+    pipe::tell(rt, h, pipe::MESSAGE, front(&m, length_of(built)))
 }
 
 // Sends the list in its two parts.
-pub(crate) fn write_list(mut h: Host, list: &[u8]) -> Host {
-    h = write_part(h, list, 0);
-    write_part(h, list, MOST_WRITTEN)
+pub(crate) fn write_list(rt: &impl Input, mut h: Host, list: &[u8]) -> Host {
+    h = write_part(rt, h, list, 0);
+    write_part(rt, h, list, MOST_WRITTEN)
 }
 
 // Sends a Set of brightness.
-fn set(h: Host, value: u16) -> Host {
+fn set(rt: &impl Input, h: Host, value: u16) -> Host {
     let mut m = [0u8; OUTPUT_ROOM];
     let built = message_request_builder::build_set(TO_DISPLAY, BRIGHTNESS, value, &mut m);
-    pipe::tell(h, pipe::MESSAGE, front(&m, length_of(built)))
+    pipe::tell(rt, h, pipe::MESSAGE, front(&m, length_of(built)))
 }
 
 // Returns what a reply to a Get says. A reply that the line has spoiled says nothing.
@@ -85,10 +86,10 @@ fn nothing(h: Host) -> Got {
 }
 
 // Sends a Get of brightness, and returns what came.
-fn get_once(mut h: Host) -> Got {
+fn get_once(rt: &impl Input, mut h: Host) -> Got {
     let mut m = [0u8; OUTPUT_ROOM];
     let built = message_request_builder::build_get(TO_DISPLAY, BRIGHTNESS, &mut m);
-    h = pipe::exchange(h, pipe::MESSAGE, front(&m, length_of(built)));
+    h = pipe::exchange(rt, h, pipe::MESSAGE, front(&m, length_of(built)));
     if h.fault != pipe::NONE {
         return nothing(h);
     }
@@ -96,12 +97,12 @@ fn get_once(mut h: Host) -> Got {
 }
 
 // Sends a Get until a value comes, and returns it.
-fn get(first: Host) -> Got {
+fn get(rt: &impl Input, first: Host) -> Got {
     let mut g = nothing(first);
     let mut left = TRIES;
     while left > 0 {
         let h = g.host;
-        let next = get_once(h);
+        let next = get_once(rt, h);
         g = next;
         if g.came {
             return g;
@@ -112,6 +113,6 @@ fn get(first: Host) -> Got {
 }
 
 // Sets brightness, and returns what a Get then says.
-pub(crate) fn set_and_get(h: Host) -> Got {
-    get(set(h, BRIGHT))
+pub(crate) fn set_and_get(rt: &impl Input, h: Host) -> Got {
+    get(rt, set(rt, h, BRIGHT))
 }

@@ -1,8 +1,9 @@
 // The records of the pipe, from the host's side.
 use buffers::front_mut;
-use streams::{STDIN_FILENO, STDOUT_FILENO};
 use message_rules::answer::DONE;
 use message_rules::limits::OUTPUT_ROOM;
+use std::io::Input;
+use streams::{STDIN_FILENO, STDOUT_FILENO};
 
 // The kind of a record that starts the display.
 pub(crate) const START: u8 = 1;
@@ -41,7 +42,7 @@ pub(crate) const NOT_WRITTEN: u8 = 6;
 pub(crate) const NOT_READ: u8 = 7;
 
 // The host's end of the pipe.
-#[derive(Drop)]
+#[derive(Clone, Copy)]
 pub(crate) struct Host {
     // How many records were sent.
     pub(crate) records: u64,
@@ -88,29 +89,29 @@ fn write_record(kind: u8, body: &[u8]) -> bool {
 }
 
 // Returns what is wrong where no byte came: an input that has ended, or one that cannot be read.
-fn silence() -> u8 {
-    if show::input::readable(STDIN_FILENO) {
+fn silence(rt: &impl Input) -> u8 {
+    if show::input::readable(rt) {
         return ENDED;
     }
     NOT_READ
 }
 
 // Returns what is wrong with a head of which so many bytes came.
-fn head_fault(got: usize) -> u8 {
+fn head_fault(rt: &impl Input, got: usize) -> u8 {
     match got {
-        0 => silence(),
+        0 => silence(rt),
         HEAD => NONE,
         _ => CUT,
     }
 }
 
 // Returns the host with the answer number and the reply's length of the record that comes.
-fn read_head(mut h: Host) -> Host {
+fn read_head(rt: &impl Input, mut h: Host) -> Host {
     let mut head = [0u8; HEAD];
     let got = io::read_full(STDIN_FILENO, &mut head);
     h.answer = head[0];
     h.len = word(head[1], head[2]);
-    h.fault = head_fault(got);
+    h.fault = head_fault(rt, got);
     h
 }
 
@@ -129,8 +130,8 @@ fn read_reply(mut h: Host) -> Host {
 }
 
 // Returns the host with the record that comes.
-fn read_record(mut h: Host) -> Host {
-    h = read_head(h);
+fn read_record(rt: &impl Input, mut h: Host) -> Host {
+    h = read_head(rt, h);
     if h.fault == NONE {
         return read_reply(h);
     }
@@ -139,21 +140,21 @@ fn read_record(mut h: Host) -> Host {
 
 // Sends a record, and returns the host with the one that comes back.
 // After a fault nothing more is sent.
-pub(crate) fn exchange(mut h: Host, kind: u8, body: &[u8]) -> Host {
+pub(crate) fn exchange(rt: &impl Input, mut h: Host, kind: u8, body: &[u8]) -> Host {
     if h.fault != NONE {
         return h;
     }
     h.records = u64::wrapping_add(h.records, 1);
     if write_record(kind, body) {
-        return read_record(h);
+        return read_record(rt, h);
     }
     faulty(h, NOT_WRITTEN)
 }
 
 // Sends a record that should be answered with 0 and no reply.
 // Returns the host, with a fault where the answer is another.
-pub(crate) fn tell(mut h: Host, kind: u8, body: &[u8]) -> Host {
-    h = exchange(h, kind, body);
+pub(crate) fn tell(rt: &impl Input, mut h: Host, kind: u8, body: &[u8]) -> Host {
+    h = exchange(rt, h, kind, body);
     if h.fault != NONE {
         return h;
     }

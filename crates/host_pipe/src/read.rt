@@ -5,13 +5,14 @@ use crate::pipe::Host;
 use buffers::front;
 use message_rules::TextKind;
 use message_rules::limits::{LONGEST_TEXT, OUTPUT_ROOM};
+use std::io::Input;
 use transfer_rules::{State, Transfer};
 
 // How many exchanges a transfer may take.
 const BUDGET: usize = 500;
 
 // A text that is being read.
-#[derive(Drop)]
+#[derive(Clone, Copy)]
 pub(crate) struct Reading {
     // The host after some exchanges.
     pub(crate) host: Host,
@@ -44,10 +45,10 @@ pub(crate) fn is_done(t: Transfer) -> bool {
 }
 
 // Sends the transfer's next request, and returns the host with its reply.
-fn ask(h: Host, t: Transfer) -> Host {
+fn ask(rt: &impl Input, h: Host, t: Transfer) -> Host {
     let mut request = [0u8; OUTPUT_ROOM];
     let asked = transfer::request(t, &mut request);
-    pipe::exchange(h, pipe::MESSAGE, front(&request, asked.len))
+    pipe::exchange(rt, h, pipe::MESSAGE, front(&request, asked.len))
 }
 
 // Returns the reading after the reply that came was given to its transfer.
@@ -63,10 +64,10 @@ fn receive(mut r: Reading, h: Host) -> Reading {
 }
 
 // Returns the reading after one exchange.
-fn exchange(mut r: Reading) -> Reading {
+fn exchange(rt: &impl Input, mut r: Reading) -> Reading {
     let mut h = r.host;
     let t = r.transfer;
-    h = ask(h, t);
+    h = ask(rt, h, t);
     r.host = h;
     if h.fault != pipe::NONE {
         return r;
@@ -81,10 +82,10 @@ fn goes_on(r: Reading) -> bool {
 }
 
 // Returns the reading after exchanges until its transfer closes, or after the budget's number of them.
-fn exchanges(mut r: Reading) -> Reading {
+fn exchanges(rt: &impl Input, mut r: Reading) -> Reading {
     let mut left = BUDGET;
     while left > 0 {
-        let next = exchange(r);
+        let next = exchange(rt, r);
         r = next;
         if goes_on(r) {
             left -= 1;
@@ -96,11 +97,11 @@ fn exchanges(mut r: Reading) -> Reading {
 }
 
 // Returns what reading a text through a transfer brought.
-pub(crate) fn text(h: Host, kind: TextKind) -> Reading {
+pub(crate) fn text(rt: &impl Input, h: Host, kind: TextKind) -> Reading {
     let buffer = [0u8; LONGEST_TEXT];
     let begun = transfer::begin(kind, &buffer, BUDGET);
     let transfer = begun.transfer;
-    exchanges(Reading {
+    exchanges(rt, Reading {
         host: h,
         transfer: transfer,
         buffer: buffer,

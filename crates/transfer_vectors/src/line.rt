@@ -1,7 +1,7 @@
 // A small fixed pseudo-random line.
 
 // A message on the line.
-#[derive(Drop)]
+#[derive(Clone, Copy)]
 pub(crate) struct Frame {
     // Its bytes, which stand in front.
     pub(crate) bytes: [u8; ROOM],

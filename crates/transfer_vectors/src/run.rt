@@ -33,7 +33,7 @@ pub(crate) struct Ended {
 }
 
 // A transfer and what stands around it.
-#[derive(Drop)]
+#[derive(Clone, Copy)]
 struct World {
     // The transfer.
     transfer: Transfer,

@@ -85,7 +85,7 @@ fn put_records(words: [u64; 4], saved: &[u16; 256], out: &mut [u8])
 // Writes the profile: one record for each of its codes, with the saved value.
 // Returns the answer and the profile's length; 1, with nothing written, where the output is too short.
 pub fn write(s: Settings, out: &mut [u8]) -> Written
-    ensures* { λ r. ⌜ record { result = r; output = out.new } ≡ write_profile s out.old ⌝ }
+    ensures { record { result = result; output = out.new } ≡ write_profile s out.old }
 {
     let words = profile_codes(s.declared, s.readable, s.writable, s.momentary);
     let length = codes::count(words) as usize * RECORD_SIZE;

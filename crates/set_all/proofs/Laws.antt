@@ -146,10 +146,10 @@ module _ (settable momentary continuous maximum present₀ codes values answers�
         either true = simp length-set j.standing.whole
         either false = j.standing.whole
 
-    pub stores-on : a ≡ done → (m : Bool) → m ≡ member momentary (get_or codes k 0) → not m ≡ true → Standing (set present i (get_or values k 0)) (set answers k a) (k + 1)
+    pub stores-on : a ≡ done → (m : Bool) → m ≡ member momentary (get_or codes k 0) → m ≡ false → Standing (set present i (get_or values k 0)) (set answers k a) (k + 1)
     stores-on d m f n = rw (eq-eqb a done d, n) at (goes_on m f)
 
-    pub momentary-on : a ≡ done → (m : Bool) → m ≡ member momentary (get_or codes k 0) → not m ≡ false → Standing present (set answers k a) (k + 1)
+    pub momentary-on : a ≡ done → (m : Bool) → m ≡ member momentary (get_or codes k 0) → m ≡ true → Standing present (set answers k a) (k + 1)
     momentary-on d m f n = rw (eq-eqb a done d, n) at (goes_on m f)
 
     pub refused-on : (a ≡ done → ⊥) → Standing present (set answers k a) (k + 1)

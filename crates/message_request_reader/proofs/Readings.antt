@@ -1,13 +1,13 @@
 -- What the reader answers for a body of each kind: a line for each row of the table.
 -- Assumes nothing.
-use mathlib.Core.Path.{◌≡◌, refl, sym, ap, ◌∙◌, subst}
+use mathlib.Core.Path.{◌≡◌, refl, sym, ap, ◌∙◌}
 use mathlib.Core.List.{List}
 use Prim.Native.Nat.{ℕ, ◌+◌, ◌-◌, ◌≤◌, ◌<◌}
 use native.Mathlib.Omega.{arith}
 use lib.ListN.{length, get_or}
 use Rattle.message_rules.specs.declared.RequestKind.{RequestKind}
 use Rattle.message_rules.specs.declared.RequestKind.TheVariants.{Get, Set, Timing, Save, Text, TableRead, TableWrite}
-use Rattle.message_rules.specs.Read.{ok, refused}
+use Rattle.message_rules.specs.Read.{ok}
 use Rattle.message_rules.specs.Row as kind
 use Rattle.message_rules.specs.Layout.{layout_of, least}
 use Rattle.message_rules.specs.Body.{word}
@@ -19,9 +19,6 @@ use Rattle.message_frame.proofs.Meanings.{means_of, means_as, rest_from}
 use Rattle.message_request_reader.specs.Outcome.{RequestMeans}
 use Rattle.message_request_reader.specs.declared.RequestRead.{RequestRead}
 use Rattle.message_request_reader.specs.declared.RequestRead.TheVariants as request
-
-pub request-refused : (s : List ℕ) (k : ℕ) → RequestMeans s (request.Refused k) (refused k)
-request-refused s k = record { means = refl; inside = tt }
 
 abbrev pub request_at : RequestKind → List ℕ → RequestRead
 request_at Get s = request.Get (get_or s 3 0)
@@ -40,9 +37,6 @@ request_placed Save s room h = record { means = refl; inside = tt }
 request_placed Text s room h = record { means = refl; inside = tt }
 request_placed TableRead s room h = record { means = refl; inside = tt }
 request_placed TableWrite s room h = record { means = ap (λ (l : List ℕ). ok (table_write (get_or s 3 0) (word s 4) l)) (rest_from s 4 3 (omega arith)); inside = (refl, omega arith) }
-
-pub least-request : {c k : RequestKind} {n : ℕ} → c ≡ k → least (layout_of (kind.Request c)) ≤ n → least (layout_of (kind.Request k)) ≤ n
-least-request {n = n} e h = subst (λ (x : RequestKind). least (layout_of (kind.Request x)) ≤ n) e h
 
 pub request-read : {c k : RequestKind} (s : List ℕ) {r : RequestRead} → 0 < body_length s → body_length s + 3 ≤ length s → least (layout_of (kind.Request c)) ≤ body_length s - 1
     → c ≡ k → r ≡ request_at k s → RequestMeans s r (body_in requests (kind.Request c) s)

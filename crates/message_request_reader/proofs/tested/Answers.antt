@@ -7,7 +7,6 @@ use Rattle.message_rules.specs.Frame.{body_length}
 use Rattle.message_rules.specs.Message.{requests}
 use Rattle.message_frame.proofs.Verdicts.{head_refused, frame_is, tail-refused, empty-refused}
 use Rattle.message_request_reader.proofs.Verdicts.{request_form, request-holds}
-use borrow.Author.Rules.{rules}
 use Rattle.message_request_reader.proofs.tested.Goals as goal
 
 pub returns-then-head-ne-DONE : goal.returns-then-head-ne-DONE

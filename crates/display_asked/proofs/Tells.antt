@@ -2,7 +2,7 @@
 -- Assumes nothing.
 use Prim.Native.Nat.{ℕ, ◌+◌, ◌*◌, ◌/◌, ◌%◌, ◌≤◌, ◌<◌}
 use mathlib.Core.Path.{◌≡◌, refl, sym, ap, ◌∙◌}
-use mathlib.Core.Bool.{and_false}
+use mathlib.Core.Bool.{and-false}
 use mathlib.Core.List.{List}
 use native.Mathlib.Omega.{arith}
 use lib.Dec.{eqb}
@@ -40,7 +40,7 @@ module _ (answer : ℕ) (s : List ℕ) where
   -- a message without a command
   pub short : length s < 3 → asked_of answer s ≡ asked 0 0 0
   unfolding asked_of
-  short h = rw (lt-leb 3 (length s) h, and_false (eqb answer 0))
+  short h = rw (lt-leb 3 (length s) h, and-false (eqb answer 0))
 
   -- one with a command
   pub known : answer ≡ 0 → 3 ≤ length s → asked_of answer s ≡ row_asked (row_of way.Request (get_or s 2 0)) s

@@ -1,6 +1,6 @@
 -- What the reader answers for a body of each kind: a line for each row of the table.
 -- Assumes nothing.
-use mathlib.Core.Path.{◌≡◌, refl, sym, ap, ◌∙◌, subst}
+use mathlib.Core.Path.{◌≡◌, refl, sym, ap, ◌∙◌}
 use mathlib.Core.Bool.{Bool, true, false, cond, ◌&&◌}
 use mathlib.Core.List.{List}
 use Prim.Native.Nat.{ℕ, ◌+◌, ◌-◌, ◌/◌, ◌%◌, ◌≤◌, ◌<◌}
@@ -52,9 +52,6 @@ reply_placed TimingReply s room h =
 reply_placed TextFragment s room h = record { means = ap (λ (l : List ℕ). ok (text_fragment (word s 3) l)) (rest_from s 3 2 (omega arith)); inside = (refl, omega arith) }
 reply_placed TableFragment s room h = record { means = ap (λ (l : List ℕ). ok (table_fragment (word s 3) l)) (rest_from s 3 2 (omega arith)); inside = (refl, omega arith) }
 
-pub least-reply : {c k : ReplyKind} {n : ℕ} → c ≡ k → least (layout_of (kind.Reply c)) ≤ n → least (layout_of (kind.Reply k)) ≤ n
-least-reply {n = n} e h = subst (λ (x : ReplyKind). least (layout_of (kind.Reply x)) ≤ n) e h
-
 pub reply-read : {c k : ReplyKind} (s : List ℕ) {r : ReplyRead} → 0 < body_length s → body_length s + 3 ≤ length s → least (layout_of (kind.Reply c)) ≤ body_length s - 1
     → c ≡ k → r ≡ reply_at k s → ReplyMeans s r (body_in replies (kind.Reply c) s)
 reply-read {c} {k} s some room h e q =
@@ -70,6 +67,3 @@ module _ (s : List ℕ) where
 
   pub timing-read : {st h v : ℕ} → st ≡ get_or s 3 0 → h ≡ word s 4 → v ≡ word s 6 → eqb (st / 4 % 16) 0 ≡ true → reply.Timing st h v ≡ reply_at TimingReply s
   timing-read d g h q = rw (← d, ← g, ← h, q)
-
-  pub timing_wrong : {st : ℕ} → st ≡ get_or s 3 0 → eqb (st / 4 % 16) 0 ≡ false → reply.Refused 7 ≡ reply_at TimingReply s
-  timing_wrong d q = rw (← d, q)

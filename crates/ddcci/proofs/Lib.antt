@@ -1,4 +1,3 @@
-pub mod Texts
 pub mod Households
 pub mod Follow
 pub mod Refuted

@@ -48,8 +48,7 @@ fn household_numbers(found: Found) -> HouseholdNumbers
 
 // Checks a call list.
 // Returns 0 with the number of its entries, or the answer to the first record that is refused and where it starts.
-#[unsafe(no_mangle)]
-pub extern "C" fn ddcci_check_call_list(list: &[u8]) -> Checked
+pub fn ddcci_check_call_list(list: &[u8]) -> Checked
     ensures { result ≡ check_list list.now }
 {
     call_list::check(list)
@@ -57,8 +56,7 @@ pub extern "C" fn ddcci_check_call_list(list: &[u8]) -> Checked
 
 // Finds a household in a call list.
 // Returns the number of its entry, or that it has none. A list that is not accepted gives its refusal.
-#[unsafe(no_mangle)]
-pub extern "C" fn ddcci_find_household(list: &[u8], household: u32) -> HouseholdNumbers
+pub fn ddcci_find_household(list: &[u8], household: u32) -> HouseholdNumbers
     ensures { result ≡ household_numbers (find_household list.now household) }
 {
     household_numbers(call_list::find(list, household))
@@ -66,8 +64,7 @@ pub extern "C" fn ddcci_find_household(list: &[u8], household: u32) -> Household
 
 // Returns the entry with this number, of a list that was accepted; past its entries, token and household 0.
 // Of any other list it is what stands there.
-#[unsafe(no_mangle)]
-pub extern "C" fn ddcci_call_list_entry(list: &[u8], number: usize) -> Entry
+pub fn ddcci_call_list_entry(list: &[u8], number: usize) -> Entry
     ensures { result ≡ entry_of list.now number }
 {
     call_list::entry(list, EntryNumber(number))

@@ -39,8 +39,7 @@ fn reading_numbers(reading: Reading) -> ReadingNumbers
 // Reads a capabilities string into four buffers, one entry a node in each.
 // Returns the answer, and the number of nodes or the position that is refused.
 // A string that is refused leaves the buffers as they were.
-#[unsafe(no_mangle)]
-pub extern "C" fn ddcci_read_capabilities(
+pub fn ddcci_read_capabilities(
     text: &[u8],
     starts: &mut [u16],
     lengths: &mut [u16],

@@ -40,8 +40,7 @@ pub(crate) fn built_numbers(built: Built) -> BuiltNumbers
 }
 
 // Returns the exclusive-or of the bytes with a seed.
-#[unsafe(no_mangle)]
-pub extern "C" fn ddcci_checksum(seed: u8, bytes: &[u8]) -> u8
+pub fn ddcci_checksum(seed: u8, bytes: &[u8]) -> u8
     ensures { result ≡ xor_all seed bytes.now }
 {
     checksum::checksum(seed, bytes)

@@ -9,8 +9,7 @@ use profile_compare_rules::Compared;
 // A profile that does not have the code has the value 65,536 there.
 // Returns how many differences are listed; or 17 with the profile and where its first bad record starts, the first
 // profile before the second; then 1 where an array is too short. A refusal lists nothing.
-#[unsafe(no_mangle)]
-pub extern "C" fn ddcci_compare_profiles(
+pub fn ddcci_compare_profiles(
     first: &[u8],
     second: &[u8],
     codes: &mut [u8],

@@ -100,8 +100,7 @@ fn reply_numbers(read: ReplyRead) -> ReplyNumbers
 
 // Returns the fields of a reply to the host, or the answer that refuses it; the null message is 12.
 // `read_display_reply` does the same, and is not called: a reader that only one export uses is inlined into it.
-#[unsafe(no_mangle)]
-pub extern "C" fn ddcci_read_reply(message: &[u8]) -> ReplyNumbers
+pub fn ddcci_read_reply(message: &[u8]) -> ReplyNumbers
     ensures { ReadsReply message.now result }
 {
     if is_null(message) {
@@ -112,8 +111,7 @@ pub extern "C" fn ddcci_read_reply(message: &[u8]) -> ReplyNumbers
 
 // Builds a Value: result, code, type, maximum and present value.
 // A result or a type above 1 is refused with 7.
-#[unsafe(no_mangle)]
-pub extern "C" fn ddcci_build_value(
+pub fn ddcci_build_value(
     res: u8,
     code: u8,
     kind: u8,
@@ -130,8 +128,7 @@ pub extern "C" fn ddcci_build_value(
 
 // Builds a Timing reply: status, horizontal and vertical frequency.
 // A status with one of its bits 5 to 2 set is refused with 7.
-#[unsafe(no_mangle)]
-pub extern "C" fn ddcci_build_timing_reply(
+pub fn ddcci_build_timing_reply(
     status: u8,
     horizontal: u16,
     vertical: u16,
@@ -146,12 +143,7 @@ pub extern "C" fn ddcci_build_timing_reply(
 
 // Builds a fragment of the capabilities string: its offset and its data.
 // More than 32 data bytes are refused with 7.
-#[unsafe(no_mangle)]
-pub extern "C" fn ddcci_build_text_fragment(
-    offset: u16,
-    data: &[u8],
-    out: &mut [u8],
-) -> BuiltNumbers
+pub fn ddcci_build_text_fragment(offset: u16, data: &[u8], out: &mut [u8]) -> BuiltNumbers
     ensures { BuildsMessageNumbers replies to_host (text_fragment offset «data».now) out.old out.new result }
 {
     crate::built_numbers(message_reply_builder::build_text_fragment(
@@ -164,12 +156,7 @@ pub extern "C" fn ddcci_build_text_fragment(
 
 // Builds a fragment of the table: its offset and its data.
 // More than 32 data bytes are refused with 7.
-#[unsafe(no_mangle)]
-pub extern "C" fn ddcci_build_table_fragment(
-    offset: u16,
-    data: &[u8],
-    out: &mut [u8],
-) -> BuiltNumbers
+pub fn ddcci_build_table_fragment(offset: u16, data: &[u8], out: &mut [u8]) -> BuiltNumbers
     ensures { BuildsMessageNumbers replies to_host (table_fragment offset «data».now) out.old out.new result }
 {
     crate::built_numbers(message_reply_builder::build_table_fragment(
@@ -181,8 +168,7 @@ pub extern "C" fn ddcci_build_table_fragment(
 }
 
 // Builds the null message: 6E 80 BE.
-#[unsafe(no_mangle)]
-pub extern "C" fn ddcci_build_null(out: &mut [u8]) -> BuiltNumbers
+pub fn ddcci_build_null(out: &mut [u8]) -> BuiltNumbers
     ensures { BuildsNumbers true (null to_host) out.old out.new result }
 {
     crate::built_numbers(message_reply_builder::build_null(out))

@@ -77,56 +77,49 @@ fn request_numbers(read: RequestRead) -> RequestNumbers
 }
 
 // Returns the fields of a request to the display, or the answer that refuses it.
-#[unsafe(no_mangle)]
-pub extern "C" fn ddcci_read_request(message: &[u8]) -> RequestNumbers
+pub fn ddcci_read_request(message: &[u8]) -> RequestNumbers
     ensures { ReadsRequest message.now result }
 {
     request_numbers(read_request(TO_DISPLAY, message))
 }
 
 // Builds a Get, which asks for the value of a code.
-#[unsafe(no_mangle)]
-pub extern "C" fn ddcci_build_get(code: u8, out: &mut [u8]) -> BuiltNumbers
+pub fn ddcci_build_get(code: u8, out: &mut [u8]) -> BuiltNumbers
     ensures { BuildsMessageNumbers requests to_display (get_feature code) out.old out.new result }
 {
     crate::built_numbers(message_request_builder::build_get(TO_DISPLAY, code, out))
 }
 
 // Builds a Set, which sets a code to a value.
-#[unsafe(no_mangle)]
-pub extern "C" fn ddcci_build_set(code: u8, value: u16, out: &mut [u8]) -> BuiltNumbers
+pub fn ddcci_build_set(code: u8, value: u16, out: &mut [u8]) -> BuiltNumbers
     ensures { BuildsMessageNumbers requests to_display (set_feature code value) out.old out.new result }
 {
     crate::built_numbers(message_request_builder::build_set(TO_DISPLAY, code, value, out))
 }
 
 // Builds a Timing, which asks for the timing.
-#[unsafe(no_mangle)]
-pub extern "C" fn ddcci_build_timing(out: &mut [u8]) -> BuiltNumbers
+pub fn ddcci_build_timing(out: &mut [u8]) -> BuiltNumbers
     ensures { BuildsMessageNumbers requests to_display timing out.old out.new result }
 {
     crate::built_numbers(message_request_builder::build_timing(TO_DISPLAY, out))
 }
 
 // Builds a Save, which saves every present value.
-#[unsafe(no_mangle)]
-pub extern "C" fn ddcci_build_save(out: &mut [u8]) -> BuiltNumbers
+pub fn ddcci_build_save(out: &mut [u8]) -> BuiltNumbers
     ensures { BuildsMessageNumbers requests to_display save out.old out.new result }
 {
     crate::built_numbers(message_request_builder::build_save(TO_DISPLAY, out))
 }
 
 // Builds a Text, which asks for the fragment of the capabilities string at an offset.
-#[unsafe(no_mangle)]
-pub extern "C" fn ddcci_build_text(offset: u16, out: &mut [u8]) -> BuiltNumbers
+pub fn ddcci_build_text(offset: u16, out: &mut [u8]) -> BuiltNumbers
     ensures { BuildsMessageNumbers requests to_display (text offset) out.old out.new result }
 {
     crate::built_numbers(message_request_builder::build_text(TO_DISPLAY, TextOffset(offset), out))
 }
 
 // Builds a Table read, which asks for the fragment of the table at an offset.
-#[unsafe(no_mangle)]
-pub extern "C" fn ddcci_build_table_read(code: u8, offset: u16, out: &mut [u8]) -> BuiltNumbers
+pub fn ddcci_build_table_read(code: u8, offset: u16, out: &mut [u8]) -> BuiltNumbers
     ensures { BuildsMessageNumbers requests to_display (table_read code offset) out.old out.new result }
 {
     crate::built_numbers(message_request_builder::build_table_read(
@@ -139,13 +132,7 @@ pub extern "C" fn ddcci_build_table_read(code: u8, offset: u16, out: &mut [u8]) 
 
 // Builds a Table write, which writes data into the table at an offset.
 // More than 31 data bytes are refused with 7.
-#[unsafe(no_mangle)]
-pub extern "C" fn ddcci_build_table_write(
-    code: u8,
-    offset: u16,
-    data: &[u8],
-    out: &mut [u8],
-) -> BuiltNumbers
+pub fn ddcci_build_table_write(code: u8, offset: u16, data: &[u8], out: &mut [u8]) -> BuiltNumbers
     ensures { BuildsMessageNumbers requests to_display (table_write code offset «data».now) out.old out.new result }
 {
     crate::built_numbers(message_request_builder::build_table_write(

@@ -128,8 +128,7 @@ fn numbers_of(t: Transfer, answer: u8) -> TransferNumbers
 
 // Returns a transfer of a text, with the buffer that it will fill and a budget of exchanges.
 // A budget above 65,535 is refused with 18, an unknown text with 6; the transfer is then closed.
-#[unsafe(no_mangle)]
-pub extern "C" fn ddcci_begin(kind: u8, buffer: &[u8], budget: usize) -> TransferNumbers
+pub fn ddcci_begin(kind: u8, buffer: &[u8], budget: usize) -> TransferNumbers
     ensures { result ≡ begin_numbers kind (length buffer.now) budget }
 {
     match text_of(kind) {
@@ -163,8 +162,7 @@ fn request_of(kind: TextKind, n: TransferNumbers, out: &mut [u8]) -> BuiltNumber
 // Builds the request for the offset that the transfer has reached.
 // Returns the answer and the request's length.
 // An unknown text is 6, and nothing is written.
-#[unsafe(no_mangle)]
-pub extern "C" fn ddcci_request(n: TransferNumbers, out: &mut [u8]) -> BuiltNumbers
+pub fn ddcci_request(n: TransferNumbers, out: &mut [u8]) -> BuiltNumbers
     ensures { Requests (request_outcome n out.old) result out.new }
 {
     match text_of(n.phase / TABLE_PHASES) {
@@ -193,12 +191,7 @@ fn receive_of(
 // Receives the bytes that came back, with the buffer that the transfer was begun with.
 // Returns the transfer afterwards, with the answer in it.
 // An unknown text is 6, and nothing else changes.
-#[unsafe(no_mangle)]
-pub extern "C" fn ddcci_receive(
-    n: TransferNumbers,
-    buffer: &mut [u8],
-    reply: &[u8],
-) -> TransferNumbers
+pub fn ddcci_receive(n: TransferNumbers, buffer: &mut [u8], reply: &[u8]) -> TransferNumbers
     ensures { Receives (receive_numbers n buffer.old reply.now) result buffer.new }
 {
     match text_of(n.phase / TABLE_PHASES) {

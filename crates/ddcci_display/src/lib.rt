@@ -36,32 +36,28 @@ pub struct DisplayLoaded {
 
 // Returns a display with a timing, a capabilities string and a fragment size, and no code declared yet.
 // A refused start gives the empty display.
-#[unsafe(no_mangle)]
-pub extern "C" fn ddcci_display_start(timing: Timing, text: &[u8], size: u16) -> Changed
+pub fn ddcci_display_start(timing: Timing, text: &[u8], size: u16) -> Changed
     ensures { result ≡ start timing (length text.now) size }
 {
     display_start::start(timing, text, size)
 }
 
 // Returns the display with a code declared, or 18 and the same display.
-#[unsafe(no_mangle)]
-pub extern "C" fn ddcci_display_declare(d: Display, declaration: Declaration) -> Changed
+pub fn ddcci_display_declare(d: Display, declaration: Declaration) -> Changed
     ensures { result ≡ declare d declaration }
 {
     display_start::declare(d, declaration)
 }
 
 // Returns how many codes are declared.
-#[unsafe(no_mangle)]
-pub extern "C" fn ddcci_display_declared_count(d: Display) -> u16
+pub fn ddcci_display_declared_count(d: Display) -> u16
     ensures { result ≡ count_of d.settings.declared }
 {
     settings::declared_count(d.settings)
 }
 
 // Returns the least declared code from the given number on, or 256 where there is none.
-#[unsafe(no_mangle)]
-pub extern "C" fn ddcci_display_next_declared(d: Display, from: u16) -> u16
+pub fn ddcci_display_next_declared(d: Display, from: u16) -> u16
     ensures { result ≡ code_number (next_of d.settings.declared from) }
 {
     let next = settings::next_declared(d.settings, from);
@@ -74,8 +70,7 @@ pub extern "C" fn ddcci_display_next_declared(d: Display, from: u16) -> u16
 // Answers one message to the display, and returns the display afterwards.
 // This is the one step that there is: programs in Rattle call it too.
 // Each case has a `return` of its own, so that the display is copied once (docs/PROVING-NOTES.md).
-#[unsafe(no_mangle)]
-pub extern "C" fn ddcci_display_step(
+pub fn ddcci_display_step(
     d: Display,
     text: &[u8],
     table: &mut [u8],
@@ -114,8 +109,7 @@ pub extern "C" fn ddcci_display_step(
 // Returns the display afterwards and the call's own answer.
 // With fewer answers than codes that is 1, then with over 64 or unequally many codes and values 7: nothing is tried then.
 // The timing's numbers are read and stored, so that the arrays between them are copied once (docs/PROVING-NOTES.md).
-#[unsafe(no_mangle)]
-pub extern "C" fn ddcci_display_set_all(
+pub fn ddcci_display_set_all(
     mut d: Display,
     codes: &[u8],
     values: &[u16],
@@ -142,8 +136,7 @@ pub extern "C" fn ddcci_display_set_all(
 
 // Returns what a message asked for, given the answer of its step.
 // All is 0 where the answer is not 0, the message is too short for its command, or the command is not in the table.
-#[unsafe(no_mangle)]
-pub extern "C" fn ddcci_display_asked(answer: u8, message: &[u8]) -> DisplayAsked
+pub fn ddcci_display_asked(answer: u8, message: &[u8]) -> DisplayAsked
     ensures { result ≡ asked_of answer message.now }
 {
     display_asked::asked_for(answer, message)
@@ -151,16 +144,14 @@ pub extern "C" fn ddcci_display_asked(answer: u8, message: &[u8]) -> DisplayAske
 
 // Writes the profile of the display's saved values into the output.
 // Returns the answer and the profile's length.
-#[unsafe(no_mangle)]
-pub extern "C" fn ddcci_display_write_profile(d: Display, out: &mut [u8]) -> Written
-    ensures* { λ r. ⌜ record { result = r; output = out.new } ≡ write_profile d.settings out.old ⌝ }
+pub fn ddcci_display_write_profile(d: Display, out: &mut [u8]) -> Written
+    ensures { record { result = result; output = out.new } ≡ write_profile d.settings out.old }
 {
     profile::write(d.settings, out)
 }
 
 // Returns the display with a profile's values, present and saved, or the same display and where it was refused.
-#[unsafe(no_mangle)]
-pub extern "C" fn ddcci_display_load_profile(mut d: Display, profile: &[u8]) -> DisplayLoaded
+pub fn ddcci_display_load_profile(mut d: Display, profile: &[u8]) -> DisplayLoaded
     ensures { result ≡ loaded_numbers d (load_profile d.settings profile.now) }
 {
     let loaded = profile::load(d.settings, profile);

@@ -5,12 +5,12 @@ use buffers::{front, front_mut, front_words, least, octet, wide_word};
 use ddcci_display::{ddcci_display_set_all, ddcci_display_step};
 use display_rules::Display;
 use display_rules::limits::TABLE_ROOM;
-use streams::{STDERR_FILENO, STDIN_FILENO, STDOUT_FILENO};
 use message_rules::Position;
 use message_rules::answer::DONE;
 use message_rules::limits::OUTPUT_ROOM;
 use records::word_at;
 use settings_rules::{Declaration, Timing};
+use streams::{STDERR_FILENO, STDIN_FILENO, STDOUT_FILENO};
 
 // The bytes in front of a record's body: its kind, and the body's length.
 const HEAD: usize = 3;

@@ -34,7 +34,7 @@ const READS: usize = 33;
 const SIZE: usize = 32;
 
 // A display on a bench.
-#[derive(Drop)]
+#[derive(Clone, Copy)]
 pub(crate) struct Bench {
     // The display.
     pub(crate) display: Display,

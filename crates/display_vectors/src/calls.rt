@@ -14,7 +14,7 @@ const COUNTS: usize = 3;
 const SETTING_SIZE: usize = 3;
 
 // What a call left.
-#[derive(Drop)]
+#[derive(Clone, Copy)]
 pub(crate) struct Called {
     // The bench with the display afterwards.
     pub(crate) bench: Bench,

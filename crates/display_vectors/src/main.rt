@@ -9,8 +9,8 @@ mod line;
 use bench::{Bench, FILLING, OUT_ROOM, TABLE_BUFFER};
 use buffers::{behind, front, front_mut, octet, wide, wide_word};
 use display_rules::Changed;
-use streams::{STDIN_FILENO, STDOUT_FILENO};
 use settings_rules::{Declaration, Settings, Timing};
+use streams::{STDIN_FILENO, STDOUT_FILENO};
 
 // One byte more than the longest input.
 const INPUT_ROOM: usize = 32768;
@@ -230,7 +230,7 @@ fn begin(mut b: Bench, s: &[u8]) -> Bench {
     if b.rows != 0 {
         close(b.rows, b.good);
     }
-    let end = buffers::find(s, 0, b')');
+    let end = buffers::find(s, 0, b']');
     io::write_all(STDOUT_FILENO, behind(front(s, end), 1));
     b.rows = 0;
     b.good = true;

@@ -19,6 +19,7 @@ pub(crate) enum FragmentRead {
 
 // Builds the request for the fragment of a text at an offset.
 // Returns its length, or 1 where the output has under 38 bytes.
+#[tactic(auto, unfolding(transfer_rules::specs::Fragment::request_message))]
 pub(crate) fn build(kind: TextKind, offset: TextOffset, output: &mut [u8]) -> Built
     ensures { Builds true (request_message kind offset.0) output.old output.new result }
 {

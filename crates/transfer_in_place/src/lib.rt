@@ -19,7 +19,7 @@ pub fn receive_in_place(transfer: &mut Transfer, buffer: &mut [u8], reply: &[u8]
 
 // Receives the bytes that came back through `receive_in_place`, for a transfer by value.
 // Returns the answer and the transfer afterwards.
-// A caller of this one has no lent transfer to speak of, and so needs no proof by hand.
+// A caller of this one has no lent transfer to speak of.
 pub fn receive_by_place(start: Transfer, buffer: &mut [u8], reply: &[u8]) -> Received
     ensures { Receives (rules.receive start buffer.old reply.now) result.answer result.transfer buffer.new }
 {

@@ -88,7 +88,7 @@ fn part_is(s: &[u8], at: usize, len: usize, data: &[u8]) -> bool {
     if rest.len() < len {
         return false;
     }
-    same(&rest[0..len], data)
+    &rest[0..len] == data
 }
 
 // Returns whether all fields are the same.

@@ -62,7 +62,7 @@ pub(crate) fn command(word: &[u8]) -> u8 {
     buffers::copy(word, &mut padded);
     for i in 0..WORDS {
         let at = i * WIDTH;
-        if fields::part(words, at, at + WIDTH) == &padded {
+        if fields::part(words, at, at + WIDTH) == padded.as_slice() {
             return buffers::octet(commands, i);
         }
     }

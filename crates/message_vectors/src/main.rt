@@ -7,11 +7,11 @@ mod line;
 mod setting;
 mod values;
 
-use streams::{STDERR_FILENO, STDIN_FILENO, STDOUT_FILENO};
 use message_vector_checks::{damage, table, vector};
 use message_vector_table::fields;
 use message_vector_table::fields::Fields;
 use message_vector_table::tally::Tally;
+use streams::{STDERR_FILENO, STDIN_FILENO, STDOUT_FILENO};
 
 // One byte more than the longest input.
 const INPUT_ROOM: usize = 16384;
@@ -181,7 +181,7 @@ fn run_line(p: Progress, s: &[u8], at: usize, end: usize) -> Progress {
         return p;
     }
     if first == b'[' {
-        let last = buffers::find(text, 0, b')');
+        let last = buffers::find(text, 0, b']');
         if usize::wrapping_add(last, 1) == text.len() {
             let name = usize::wrapping_add(at, 1);
             let name_end = usize::wrapping_add(at, last);

@@ -50,7 +50,7 @@ pub(crate) fn row(f: &[u8], s: &[u8]) -> Tally {
     let high = buffers::octet(f, 1);
     let low = buffers::octet(f, 2);
     let printed = [0x51, 0x84, 0x03, code, high, low];
-    if s != &printed {
+    if s != printed.as_slice() {
         return Tally(0, 1);
     }
     if f.len() == 3 {

@@ -6,7 +6,7 @@
 pub mod actions;
 pub mod declared;
 pub mod morning;
-mod records;
+mod profile_lines;
 mod requests;
 pub mod texts;
 pub mod trial;

@@ -49,5 +49,5 @@ pub fn judged(answer: u8, answers: [u8; ANSWERS_ROOM]) -> bool {
     messages::settings(SETTINGS, answer);
     tell(answers);
     let wanted = wanted();
-    answer == answer::DONE && &answers == &wanted
+    answer == answer::DONE && answers == wanted
 }

@@ -1,5 +1,5 @@
 // 18:30: a settings profile is written, and loaded twice: damaged, which is refused, and as it was written.
-use crate::records;
+use crate::profile_lines;
 use day_report::checks;
 use message_rules::answer;
 use profile_form_rules::RECORD_SIZE;
@@ -13,7 +13,7 @@ const PROFILE_ROOM: usize = RECORD_SIZE * 3;
 const DAMAGED: usize = 9;
 
 // A profile as it was written.
-#[derive(Drop)]
+#[derive(Clone, Copy)]
 pub struct Profile {
     // Its bytes.
     bytes: [u8; PROFILE_ROOM],
@@ -46,10 +46,10 @@ pub fn written(settings: Settings) -> Profile {
 // Writes the profile's size, of the first display its records too.
 // Returns whether it was written.
 pub fn told(p: Profile, number: u64) -> bool {
-    records::size(p.len);
+    profile_lines::size(p.len);
     if number == 1 {
         let bytes = p.bytes;
-        records::records(&bytes);
+        profile_lines::records(&bytes);
     }
     p.answer == answer::DONE
 }

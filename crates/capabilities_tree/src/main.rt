@@ -4,8 +4,8 @@
 // An input that cannot be read gives no line on standard output, and one on standard error.
 #![tactic(auto)]
 
-use streams::{STDERR_FILENO, STDIN_FILENO, STDOUT_FILENO};
 use message_rules::limits::LONGEST_TEXT;
+use streams::{STDERR_FILENO, STDIN_FILENO, STDOUT_FILENO};
 
 // Writes the tree, or why there is none.
 fn show_string(string: &[u8]) {

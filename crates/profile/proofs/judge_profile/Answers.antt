@@ -1,10 +1,9 @@
 -- The record of the next code is answered as the definition does: a refusal is the profile's, and after answer 0 a whole record is read.
-use Rattle.std.proofs.Common.{◌≡◌, sym, ◌∙◌, ◌+◌, ◌≤◌, length, drop, arith}
-use Rattle.profile_form_rules.specs.Records.{record_size}
+use Rattle.std.proofs.Common.{◌≡◌, sym, ◌∙◌, drop, arith}
 use Rattle.profile_rules.specs.Profile.{answer_to}
 use Rattle.profile_rules.proofs.Rising.{next-found, next-nothing}
 use Rattle.profile.proofs.Sets.{set-codes}
-use Rattle.profile.proofs.Loading.{left_starts, left_turn, left_refused, left_end, left_more, answer_from, answered-whole}
+use Rattle.profile.proofs.Loading.{left_starts, left_turn, left_refused, left_end, left_more, answer_from}
 use Rattle.profile.proofs.judge_profile.Goals as goal
 
 pub loop-code-init : goal.loop-code-init
@@ -18,14 +17,6 @@ returns-then-answer-ne-DONE c =
     let answered = answer_from c.args.s _ _ _ _ _ c.record_answer-answer.ensures c.contains.ensures c.wide-i.ensures.0 in
     c.judged.ensures
     ∙ left_refused c.args.s c.profile_codes-words.result c.args.profile.now l.at.0 l.from l.invariant.2 _ (next-found _ _ _ l.invariant.0 c.in-Code.ensures) _ answered c.if-answer-ne-DONE.true
-
-pub after-at-requires : goal.after-at-requires
-after-at-requires c =
-    let l = c.loop-code in
-    let answered : c.record_answer-answer.result ≡ answer_to c.args.s c.in-Code.code (drop l.at.0 c.args.profile.now) =
-    answer_from c.args.s _ _ _ _ _ c.record_answer-answer.ensures c.contains.ensures c.wide-i.ensures.0 in
-    let room : l.at.0 + record_size ≤ length c.args.profile.now = answered-whole c.args.s c.args.profile.now l.at.0 _ l.invariant.1 (sym answered ∙ c.if-answer-ne-DONE.false) in
-    omega arith
 
 pub loop-code-smaller : goal.loop-code-smaller
 loop-code-smaller c = let found = next-found _ _ _ c.loop-code.invariant.0 c.in-Code.ensures in omega (arith, c.wide16-from.ensures.0)

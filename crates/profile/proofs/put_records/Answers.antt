@@ -1,21 +1,13 @@
 -- The next code of the set has its record next: there is room for it, and it goes in front of those of the codes behind it.
-use Rattle.std.proofs.Common.{refl, [], arith}
+use Rattle.std.proofs.Common.{[], arith}
 use Rattle.profile_rules.proofs.Rising.{next-found, next-nothing}
 use Rattle.profile.proofs.Outputs.{put-room, put-end, put-turn}
 use Rattle.profile.proofs.put_records.Goals as goal
-
-pub loop-code-init : goal.loop-code-init
-loop-code-init c = (omega arith, omega arith, refl, refl)
 
 pub put_record-requires : goal.put_record-requires
 put_record-requires c =
     let l = c.loop-code in
     put-room [] c.args.words l.out l.at.0 l.from _ (next-found _ _ _ l.invariant.0 c.in-Code.ensures) l.invariant.1
-
-pub after-at-requires : goal.after-at-requires
-after-at-requires c =
-    let l = c.loop-code in
-    omega (arith, put-room [] c.args.words l.out l.at.0 l.from _ (next-found _ _ _ l.invariant.0 c.in-Code.ensures) l.invariant.1)
 
 pub loop-code-smaller : goal.loop-code-smaller
 loop-code-smaller c = let found = next-found _ _ _ c.loop-code.invariant.0 c.in-Code.ensures in omega (arith, c.wide16-from.ensures.0)

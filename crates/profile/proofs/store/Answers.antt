@@ -2,14 +2,8 @@
 use mathlib.Core.Path.{sym, ◌∙◌}
 use native.Mathlib.Omega.{arith}
 use Rattle.settings_rules.specs.Values.{with_value}
-use Rattle.profile.proofs.Loading.{store_starts, store_turn, store_none}
+use Rattle.profile.proofs.Loading.{store_turn, store_none}
 use Rattle.profile.proofs.store.Goals as goal
-
-pub loop-at-init : goal.loop-at-init
-loop-at-init c = (omega arith, store_starts c.args.s c.args.profile.now)
-
-pub loop-at-smaller : goal.loop-at-smaller
-loop-at-smaller c = omega (arith, c.after-at.ensures)
 
 pub loop-at-preserved : goal.loop-at-preserved
 unfolding with_value

@@ -1,6 +1,4 @@
 -- `compare` judges the first profile, then the second, and lists the differences of accepted ones.
-use mathlib.Core.Path.{sym, ap, ◌∙◌}
-use Rattle.profile_form_rules.specs.declared.Judged.{Judged}
 use Rattle.profile_compare_rules.specs.Compare.{lent, outcome}
 use Rattle.profile_compare.proofs.Outcomes.{compare_first, compare-second, compare-both}
 use Rattle.profile_compare.proofs.compare.Goals as goal
@@ -14,13 +12,6 @@ pub returns-then-other-ne-DONE : goal.returns-then-other-ne-DONE
 returns-then-other-ne-DONE c =
     compare-second c.args.first.now c.args.second.now (lent c.args.codes.now c.args.firsts.now c.args.seconds.now) _ c.judge-one.ensures
     c.if-one-ne-DONE.false _ c.judge-other.ensures c.if-other-ne-DONE.true _ c.refused-then-other-ne-DONE.ensures
-
-pub list_or_refuse-requires : goal.list_or_refuse-requires
-list_or_refuse-requires c =
-    record {
-      first = sym (ap (λ (j : Judged). j.answer) c.judge-one.ensures) ∙ c.if-one-ne-DONE.false;
-      second = sym (ap (λ (j : Judged). j.answer) c.judge-other.ensures) ∙ c.if-other-ne-DONE.false;
-    }
 
 pub returns : goal.returns
 returns c =

@@ -6,17 +6,6 @@ use Rattle.profile_form.proofs.judge.Goals as goal
 pub loop-at-init : goal.loop-at-init
 loop-at-init c = (omega arith, form_starts c.args.profile.now)
 
-pub overflow_add-lowest : goal.overflow_add-lowest
-overflow_add-lowest c = omega (arith, c.code_of-lowest.ensures.1)
-
-pub overflow_add-behind : goal.overflow_add-behind
-overflow_add-behind c =
-    omega (arith, fitting_whole c.args.profile.now c.loop-at.lowest c.loop-at.at.0 c.loop-at.invariant.1 c.loop-at-test.true (sym c.record_fits.ensures ∙ c.if-record_fits.true))
-
-pub loop-at-smaller : goal.loop-at-smaller
-loop-at-smaller c =
-    omega (arith, fitting_whole c.args.profile.now c.loop-at.lowest c.loop-at.at.0 c.loop-at.invariant.1 c.loop-at-test.true (sym c.record_fits.ensures ∙ c.if-record_fits.true))
-
 pub loop-at-preserved : goal.loop-at-preserved
 loop-at-preserved c =
     let fitting = sym c.record_fits.ensures ∙ c.if-record_fits.true in

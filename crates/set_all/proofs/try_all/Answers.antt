@@ -1,17 +1,7 @@
 -- The setting that was tried is judged as its Set is: it is stored, or momentary, or refused, and what is left leaves the same.
-use Rattle.std.proofs.Common.{refl, sym, rules, arith}
-use Rattle.set_all.proofs.Laws.{Judged, going_starts, going_ends, stores-on, momentary-on, refused-on}
+use Rattle.std.proofs.Common.{refl, sym, arith}
+use Rattle.set_all.proofs.Laws.{Judged, going_ends, stores-on, momentary-on, refused-on}
 use Rattle.set_all.proofs.try_all.Goals as goal
-
-pub loop-k-init : goal.loop-k-init
-loop-k-init c = record {
-  reached = omega arith;
-  paired = omega arith;
-  room = omega arith;
-  same = refl;
-  whole = search rules;
-  going = λ s t e. rw (← e) (going_starts s c.args.codes.now c.args.values.now c.args.answers.now);
-}
 
 pub loop-k-preserved-then-not-contains_in : goal.loop-k-preserved-then-not-contains_in
 loop-k-preserved-then-not-contains_in c =

@@ -5,6 +5,3 @@ use Rattle.settings.proofs.declared_count.Goals as goal
 
 pub overflow_cast-result : goal.overflow_cast-result
 overflow_cast-result c = omega (arith, c.count.ensures, count_le c.args.s.declared)
-
-pub returns : goal.returns
-returns c = c.count.ensures

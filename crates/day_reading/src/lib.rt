@@ -74,7 +74,7 @@ pub fn begin(kind: TextKind, number: u64, line: Line) -> Reading {
 }
 
 // Returns what arrives of the next request.
-pub fn asked(r: Reading) -> Frame {
+pub fn asked(r: &Reading) -> Frame {
     let t = r.transfer;
     day_line::heard(day_line::draw(r.line.seed), fragment(t))
 }
@@ -137,7 +137,7 @@ fn closed(t: Transfer) -> bool {
 }
 
 // Returns whether there is more to ask.
-pub fn goes_on(r: Reading) -> bool {
+pub fn goes_on(r: &Reading) -> bool {
     let t = r.transfer;
     runs(t)
 }

@@ -31,6 +31,7 @@ pub fn empty() -> Display
 
 // Returns the answer to a start, from the settings' answer to its timing.
 // The length of the capabilities string is judged next, then the fragment size.
+#[tactic(auto, unfolding(display_rules::specs::State::start_answer))]
 fn start_answer(timing: u8, text_len: usize, size: u16) -> u8
     ensures { result ≡ start_answer timing text_len size }
 {
@@ -51,6 +52,7 @@ fn start_answer(timing: u8, text_len: usize, size: u16) -> u8
 
 // Returns a display with a timing, a capabilities string and a fragment size, and no code declared yet.
 // A refused start gives the empty display.
+#[tactic(auto, unfolding(display_rules::specs::State::start))]
 pub fn start(timing: Timing, text: &[u8], size: u16) -> Changed
     ensures { result ≡ start timing (length text.now) size }
 {
@@ -72,6 +74,7 @@ pub fn start(timing: Timing, text: &[u8], size: u16) -> Changed
 }
 
 // Returns the display with a code declared, or 18 and the same display.
+#[tactic(auto, unfolding(display_rules::specs::State::declare))]
 pub fn declare(mut d: Display, declaration: Declaration) -> Changed
     ensures { result ≡ declare d declaration }
 {

@@ -32,8 +32,18 @@ pub(crate) struct Got {
 // Sends a start, then declares brightness (80 of 100) and input (17, not continuous).
 pub(crate) fn start(rt: &impl Input, mut h: Host, record: &[u8]) -> Host {
     h = pipe::tell(rt, h, pipe::START, record);
-    h = pipe::tell(rt, h, pipe::DECLARE, b"\x10\x01\x01\x00\x01\x64\x00\x50\x00");
-    pipe::tell(rt, h, pipe::DECLARE, b"\x60\x01\x01\x00\x00\x00\x00\x11\x00")
+    h = pipe::tell(
+        rt,
+        h,
+        pipe::DECLARE,
+        b"\x10\x01\x01\x00\x01\x64\x00\x50\x00",
+    );
+    pipe::tell(
+        rt,
+        h,
+        pipe::DECLARE,
+        b"\x60\x01\x01\x00\x00\x00\x00\x11\x00",
+    )
 }
 
 // Sends a Table write of the list's bytes from the offset `at` on.

@@ -101,9 +101,12 @@ pub(crate) fn text(rt: &impl Input, h: Host, kind: TextKind) -> Reading {
     let buffer = [0u8; LONGEST_TEXT];
     let begun = transfer::begin(kind, &buffer, BUDGET);
     let transfer = begun.transfer;
-    exchanges(rt, Reading {
-        host: h,
-        transfer: transfer,
-        buffer: buffer,
-    })
+    exchanges(
+        rt,
+        Reading {
+            host: h,
+            transfer: transfer,
+            buffer: buffer,
+        },
+    )
 }

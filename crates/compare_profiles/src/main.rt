@@ -10,40 +10,57 @@ ghost use Rattle.compare_profiles.specs.Parts.{text_room};
 
 use buffers::front;
 use input::Input;
-use streams::STDOUT_FILENO;
 use lines::TEXT_ROOM;
 use profile_form_rules::LONGEST_PROFILE;
+use std::env::{Env, FillError};
+use std::fs::{File, Files};
+use streams::STDOUT_FILENO;
 
-// The program's own name and two arguments.
-const ARGUMENTS: usize = 3;
+// The most bytes of a path, and one more.
+const PATH_ROOM: usize = 4096;
 
 // One byte more than the longest profile, so that a longer one is refused.
 const PROFILE_ROOM: usize = LONGEST_PROFILE + 1;
 
+// Returns whether the program was given this argument: 1 is the first behind its own name.
+fn is_given(rt: &impl Env, argument: usize) -> bool {
+    let mut start = [0u8; 1];
+    match rt.arg(argument, &mut start) {
+        Err(FillError::NotPresent) => false,
+        _ => true,
+    }
+}
+
+// Reads the file at a path, to its end or until the room is full.
+// A path that is not UTF-8, and a file that does not open, count as one that cannot be read.
+fn read_at<R: Files>(rt: &R, path: &[u8], profile: &mut [u8]) -> Input {
+    let name = match str::from_utf8(path) {
+        Ok(name) => name,
+        Err(_) => return Input::Failed,
+    };
+    match File::open(rt, name) {
+        Ok(mut file) => input::read_to_end(&mut file, profile),
+        Err(_) => Input::Failed,
+    }
+}
+
 // Reads the file that an argument names, to its end or until the room is full.
-// An argument that is too long for a path, and a file that does not open, count as one that cannot be read.
-fn read_file(argument: usize, profile: &mut [u8]) -> Input {
-    let mut path = io::buffer();
-    let n = os::arg(argument, &mut path);
-    if os::errno() != 0 {
-        return Input::Failed;
+// An argument that is missing, and one that is too long for a path, count as one that cannot be read.
+fn read_file<R: Env + Files>(rt: &R, argument: usize, profile: &mut [u8]) -> Input {
+    let mut path = [0u8; PATH_ROOM];
+    match rt.arg(argument, &mut path) {
+        Ok(n) => read_at(rt, front(&path, n), profile),
+        Err(_) => Input::Failed,
     }
-    let file = os::open_read(&path[..n]);
-    if file < 0 {
-        return Input::Failed;
-    }
-    let read = input::read_to_end(file, profile);
-    libc::close(file);
-    read
 }
 
 // Puts what is to be written of the first file's profile and the file of the second argument at the start of a text.
 // Returns how many bytes it is.
-fn put_with_second(first: &[u8], text: &mut [u8]) -> usize
+fn put_with_second<R: Env + Files>(rt: &R, first: &[u8], text: &mut [u8]) -> usize
     requires { text_room ≤ length text.old }
 {
     let mut second = [0u8; PROFILE_ROOM];
-    let read = read_file(2, &mut second);
+    let read = read_file(rt, 2, &mut second);
     match read {
         Input::Bytes(n) => lines::put_answer(first, front(&second, n), text),
         Input::Failed => lines::put_refused(text),
@@ -52,22 +69,22 @@ fn put_with_second(first: &[u8], text: &mut [u8]) -> usize
 
 // Puts what is to be written of the two files at the start of a text.
 // Returns how many bytes it is.
-fn put_compared(text: &mut [u8]) -> usize
+fn put_compared<R: Env + Files>(rt: &R, text: &mut [u8]) -> usize
     requires { text_room ≤ length text.old }
 {
-    if os::arg_count() != ARGUMENTS {
+    if !is_given(rt, 2) || is_given(rt, 3) {
         return lines::put_refused(text);
     }
     let mut first = [0u8; PROFILE_ROOM];
-    let read = read_file(1, &mut first);
+    let read = read_file(rt, 1, &mut first);
     match read {
-        Input::Bytes(n) => put_with_second(front(&first, n), text),
+        Input::Bytes(n) => put_with_second(rt, front(&first, n), text),
         Input::Failed => lines::put_refused(text),
     }
 }
 
-fn main() {
+fn main(rt: HostRuntime) {
     let mut text = [0u8; TEXT_ROOM];
-    let n = put_compared(&mut text);
+    let n = put_compared(&rt, &mut text);
     show::text(STDOUT_FILENO, front(&text, n));
 }

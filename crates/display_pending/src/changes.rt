@@ -23,6 +23,7 @@ pub fn unsent(len: u16) -> TextState
 }
 
 // Returns the display with another present value of a code.
+#[tactic(auto, unfolding(settings_rules::specs::Settings::with_present))]
 pub fn stored(mut d: Display, code: u8, value: u16) -> Display
     ensures { result ≡ with_settings d (with_present d.settings code value) }
 {

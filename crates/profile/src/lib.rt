@@ -31,6 +31,7 @@ fn after(at: Position, n: usize) -> Position
 }
 
 // Returns one word of the set of the profile's codes: the bits of the first three sets together, without those of the fourth.
+#[tactic(auto, unfolding(crate::specs::Parts::profile_word))]
 fn profile_word(d: [u64; 4], r: [u64; 4], w: [u64; 4], m: [u64; 4], i: usize) -> u64
     requires { i < 4 }
     ensures { result ≡ profile_word d r w m i }
@@ -40,6 +41,7 @@ fn profile_word(d: [u64; 4], r: [u64; 4], w: [u64; 4], m: [u64; 4], i: usize) ->
 }
 
 // Returns the set of the profile's codes, from the sets of those that are declared, readable, writable and momentary.
+#[tactic(auto, unfolding(crate::specs::Parts::profile_words))]
 fn profile_codes(d: [u64; 4], r: [u64; 4], w: [u64; 4], m: [u64; 4]) -> [u64; 4]
     ensures { result ≡ profile_words d r w m }
 {

@@ -14,6 +14,7 @@ use message_rules::fields::status_allowed;
 use settings_rules::{Change, Declaration, Feature, Judgement, MOMENTARY, Settings, Timing};
 
 // Returns settings with the timing and no code.
+#[tactic(auto, unfolding(settings_rules::specs::Settings::starting_settings))]
 fn starting(timing: Timing) -> Settings
     ensures { result ≡ starting_settings timing }
 {
@@ -84,6 +85,7 @@ fn access_refused(readable: bool, writable: bool, momentary: bool) -> bool
 }
 
 // Returns whether declaring is refused, of a code that is declared already or not.
+#[tactic(auto, unfolding(settings_rules::specs::Settings::declaration_refused))]
 fn declaration_refused(declared: bool, d: Declaration) -> bool
     ensures { result ≡ declaration_refused declared d }
 {
@@ -103,6 +105,7 @@ fn declaration_refused(declared: bool, d: Declaration) -> bool
 }
 
 // Returns the settings with the code as it is declared.
+#[tactic(auto, unfolding(settings_rules::specs::Settings::with_declaration))]
 fn with_declaration(mut s: Settings, d: Declaration) -> Settings
     ensures { result ≡ with_declaration s d }
 {
@@ -119,6 +122,7 @@ fn with_declaration(mut s: Settings, d: Declaration) -> Settings
 }
 
 // Returns the settings with the code declared, or 18 and the same settings.
+#[tactic(auto, unfolding(settings_rules::specs::Settings::declare_code))]
 pub fn declare(s: Settings, d: Declaration) -> Change
     ensures { result ≡ declare_code s d }
 {
@@ -153,6 +157,7 @@ pub fn next_declared(s: Settings, from: u16) -> Next
 }
 
 // Returns the answer to a Set, from what is known of its code and whether the value is above the maximum.
+#[tactic(auto, unfolding(settings_rules::specs::Settings::answer_to_set))]
 pub fn set_answer(declared: bool, code: u8, writable: bool, above: bool) -> u8
     ensures { result ≡ answer_to_set declared code writable above }
 {
@@ -186,6 +191,7 @@ fn above_maximum(s: Settings, code: u8, value: u16) -> bool
 
 // Returns what a Set of the code to the value comes to.
 // The value is stored by `store`, so that the settings, which are large, are passed on only where they change.
+#[tactic(auto, unfolding(settings_rules::specs::Settings::set_answer))]
 pub fn judge_set(s: Settings, code: u8, value: u16) -> Judgement
     ensures { result ≡ judge_set s code value }
 {
@@ -224,6 +230,7 @@ pub fn store(mut present: [u16; 256], code: u8, value: u16) -> [u16; 256]
 }
 
 // Returns the settings after a Save: every saved value is the present one.
+#[tactic(auto, unfolding(settings_rules::specs::Settings::save_all))]
 pub fn save(mut s: Settings) -> Settings
     ensures { result ≡ save_all s }
 {
@@ -241,6 +248,7 @@ fn type_number(momentary: bool) -> u8
 
 // Returns what a Get of the code shows.
 // The two arrays are taken out only where they are shown, so that the settings are not copied whole.
+#[tactic(auto, unfolding(settings_rules::specs::Settings::get_code))]
 pub fn get(s: Settings, code: u8) -> Feature
     ensures { result ≡ get_code s code }
 {

@@ -1,7 +1,7 @@
 // Builders of replies, the messages to the host.
 // Each puts its message into the output and returns the message's length.
 // A refusal returns its number and leaves the output as it was: 1 for an output under 38 bytes, then 7.
-#![tactic(auto)]
+#![tactic(auto, unfolding(message_rules::specs::Frame::frame, message_rules::specs::Frame::plain))]
 
 ghost use Rattle.std.specs.Prelude.{true, leb, length};
 ghost use Rattle.message_rules.specs.Limits.{most_fragment};
@@ -94,6 +94,7 @@ fn build_fragment(a: Address, number: u8, offset: TextOffset, data: &[u8], out: 
 }
 
 // Builds the display's null message, a fixed byte string: 6E 80 BE.
+#[tactic(auto, unfolding(message_rules::specs::Frame::frame, message_rules::specs::Frame::plain, checksum::specs::Xor::xor_all))]
 pub fn build_null(out: &mut [u8]) -> Built
     ensures { Builds true (null to_host) out.old out.new result }
 {

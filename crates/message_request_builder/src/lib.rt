@@ -1,7 +1,7 @@
 // Builders of requests, the messages to the display.
 // Each puts its message into the output and returns the message's length.
 // A refusal returns its number and leaves the output as it was: 1 for an output under 38 bytes, then 7.
-#![tactic(auto)]
+#![tactic(auto, unfolding(message_rules::specs::Frame::frame, message_rules::specs::Frame::plain))]
 
 ghost use Rattle.message_rules.specs.Message.{requests, get_feature, set_feature, timing, save, text, table_read, table_write};
 ghost use Rattle.message_output.specs.Output.{BuildsMessage};

@@ -14,6 +14,7 @@ pub fn lesser(a: u16, b: u16) -> u16
 }
 
 // Returns the offset that a read at the offset q goes to.
+#[tactic(auto, unfolding(display_rules::specs::Fragments::next_offset))]
 fn next_offset(c: FragmentCursor, q: TextOffset) -> TextOffset
     ensures { result.0 ≡ next_offset c q.0 }
 {
@@ -28,6 +29,7 @@ fn next_offset(c: FragmentCursor, q: TextOffset) -> TextOffset
 }
 
 // Returns the fragment that a read at the offset q finds.
+#[tactic(auto, unfolding(display_rules::specs::Fragments::next_cursor))]
 pub fn next_cursor(size: u16, t: TextState, q: TextOffset) -> FragmentCursor
     ensures { result ≡ next_cursor size t q.0 }
 {

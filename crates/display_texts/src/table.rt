@@ -18,6 +18,7 @@ pub struct Writing {
 }
 
 // Returns the answer to a write of n bytes at an offset of a table of `old` bytes.
+#[tactic(auto, unfolding(display_rules::specs::Table::write_answer))]
 fn write_answer(code: u8, old: u16, at: TextOffset, n: usize) -> u8
     requires { n < 9223372036854775808 }
     ensures { result ≡ write_answer code old at.0 n }
@@ -35,6 +36,7 @@ fn write_answer(code: u8, old: u16, at: TextOffset, n: usize) -> u8
 }
 
 // Returns the table's length after that write.
+#[tactic(auto, unfolding(display_rules::specs::Table::length_after))]
 fn length_after(old: u16, at: TextOffset, n: u16) -> u16
     requires { at.0 + n ≤ table_room }
     ensures { result ≡ length_after old at.0 n }

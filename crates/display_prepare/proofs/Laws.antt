@@ -1,6 +1,6 @@
 -- What the parts that judge a message answer is what is to be done by the rules, where the buffers are lent well.
-use mathlib.Core.Path.{◌≡◌, refl, sym, ap, ◌∙◌}
-use mathlib.Core.Bool.{Bool, true, false, cond}
+use mathlib.Core.Path.{◌≡◌, refl}
+use mathlib.Core.Bool.{Bool, true, false}
 use mathlib.Core.List.{List}
 use Prim.Native.Nat.{ℕ, ◌≤◌}
 use native.Mathlib.Omega.{arith}
@@ -9,10 +9,8 @@ use lib.Dec.{eqb, leb}
 use borrow.Author.Tests.{le-leb}
 use Rattle.message_rules.specs.Answer.{done}
 use Rattle.message_rules.specs.Limits.{output_room, most_fragment}
-use Rattle.message_rules.specs.Message.{get_feature, timing, text, table_read, table_write, table_code, to_host}
-use Rattle.message_rules.specs.Read.{ok}
+use Rattle.message_rules.specs.Message.{get_feature, timing, table_read, table_write, table_code, to_host}
 use Rattle.message_rules.specs.declared.TextKind.{TextKind}
-use Rattle.message_rules.specs.declared.TextKind.TheVariants.{Table}
 use Rattle.settings_rules.specs.Settings.{get_code, reserved_bits}
 use Rattle.display_rules.specs.Limits.{table_room}
 use Rattle.display_rules.specs.State.{text_state}

@@ -26,7 +26,7 @@ pub(crate) struct Site {
 }
 
 // Returns how many bytes of a table the display holds.
-pub(crate) fn stored(s: Site) -> usize {
+pub(crate) fn stored(s: &Site) -> usize {
     wide_word(s.display.table.len)
 }
 
@@ -82,5 +82,6 @@ pub(crate) fn set_all(mut s: Site) -> Site {
 pub(crate) fn act(mut s: Site, a: Action) -> Site {
     s = deliver(s, actions::message(a));
     let reply = s.reply;
-    also(s, actions::judged(a, s.answer, reply, stored(s)))
+    let good = actions::judged(a, s.answer, reply, stored(&s));
+    also(s, good)
 }

@@ -14,13 +14,15 @@ use message_rules::{TextKind, answer};
 // Returns the site with message k of the list written.
 fn write(mut s: Site, list: &[u8], k: usize) -> Site {
     s = site::deliver(s, writes::message(list, k));
-    site::also(s, s.answer == answer::DONE)
+    let good = s.answer == answer::DONE;
+    site::also(s, good)
 }
 
 // Returns the site whose table should be the list, after this many messages.
 fn compared(s: Site, list: &[u8], sent: usize) -> Site {
     let table = s.table;
-    site::also(s, writes::judged(list, table, site::stored(s), sent))
+    let same = writes::judged(list, table, site::stored(&s), sent);
+    site::also(s, same)
 }
 
 // Returns the site with the call list written.
@@ -56,10 +58,10 @@ fn read(kind: TextKind, mut s: Site, number: u64, wanted: &[u8]) -> Site {
     let mut r = day_reading::begin(kind, number, line);
     let mut left = day_reading::BUDGET;
     while left > 0 {
-        s = site::deliver(s, day_reading::asked(r));
+        s = site::deliver(s, day_reading::asked(&r));
         let reply = s.reply;
         r = day_reading::hear(r, reply);
-        if day_reading::goes_on(r) {
+        if day_reading::goes_on(&r) {
             left -= 1;
         } else {
             left = 0;
@@ -93,9 +95,11 @@ fn settled(mut s: Site, l: Left) -> Site {
 
 // Returns the site after the profile was tried: damaged, and over a change.
 fn try_profile(mut s: Site, p: Profile) -> Site {
-    s = settled(s, trial::damaged(s.display.settings, p));
+    let refused = trial::damaged(s.display.settings, p);
+    s = settled(s, refused);
     s = site::act(s, Action::Set(BRIGHTNESS, 20, answer::DONE));
-    s = settled(s, trial::loaded(s.display.settings, p));
+    let loaded = trial::loaded(s.display.settings, p);
+    s = settled(s, loaded);
     site::act(s, Action::Get(BRIGHTNESS, 70))
 }
 

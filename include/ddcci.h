@@ -1,6 +1,6 @@
 /* Paneknoll: a verified implementation of both ends of VESA DDC/CI 1.1, for a host.
  *
- * Link target/staticlib/libddcci.a, which is built for x86-64 Linux; it needs memset.
+ * Link target/staticlib/libddcci.a, which is built for x86-64 Linux; it needs memmove and memset.
  *
  * Every function is proved, for all inputs, to be safe, to end and to answer as the papers say: document
  * 01, and document 02 for call lists and compared profiles. None allocates. Each answer is a number of `enum

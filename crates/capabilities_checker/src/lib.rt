@@ -74,7 +74,8 @@ pub fn check(text: &[u8], room: usize) -> Reading
     if text.len() == 0 {
         return Reading::Refused(answer::WRONG_GRAMMAR, Position(0));
     }
-    if text[0] != OPEN {
+    let opens = text[0] == OPEN;
+    if !opens {
         return Reading::Refused(answer::WRONG_GRAMMAR, Position(0));
     }
     let outer = check_group(text, Position(1), DEEPEST - 1, 0, room);

@@ -25,7 +25,8 @@ fn put_value(text: &mut [u8], at: usize, value: u32) -> usize
     requires { (value ≤ absent) × (at + value_room ≤ length text.old) }
     ensures { PutsValue value text.old at text.new result }
 {
-    if value == ABSENT {
+    let is_absent = value == ABSENT;
+    if is_absent {
         put_octet(text, at, b'-');
         return at + 1;
     }

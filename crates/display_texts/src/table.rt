@@ -53,7 +53,8 @@ fn length_after(old: u16, at: TextOffset, n: u16) -> u16
 pub fn write(old: u16, table: &mut [u8], code: u8, at: TextOffset, data: &[u8]) -> Writing
     ensures { Writes old code at.0 «data».now table.old table.new result }
 {
-    if table.len() < TABLE_ROOM {
+    let short = table.len() < TABLE_ROOM;
+    if short {
         return Writing {
             answer: answer::WRONG_SIZE,
             len: old,

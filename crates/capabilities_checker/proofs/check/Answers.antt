@@ -24,7 +24,7 @@ within room s small some first answer g = outcome-short room s small ∙ judge_o
 found : (c : After-check_group-outer) {r : Group} → c.check_group-outer.result ≡ r → outcome c.args.room c.args.text.now ≡ resumed c.args.room 0 c.args.text.now r
 found c e =
     let x = c.args in
-    within x.room x.text.now c.if-text-gt-LONGEST_TEXT.false (search rules) c.if-text-ne-OPEN.false c.check_group-outer.ensures.answer e
+    within x.room x.text.now c.if-text-gt-LONGEST_TEXT.false (search rules) c.if-not-opens.false c.check_group-outer.ensures.answer e
 
 pub returns-then-text-gt-LONGEST_TEXT : goal.returns-then-text-gt-LONGEST_TEXT
 returns-then-text-gt-LONGEST_TEXT c = sym (outcome-long c.args.room c.args.text.now c.if-text-gt-LONGEST_TEXT.true)
@@ -34,10 +34,10 @@ returns-then-text-eq0 c =
     let x = c.args in
     sym (outcome-short x.room x.text.now c.if-text-gt-LONGEST_TEXT.false ∙ judge-none x.room x.text.now c.if-text-eq0.true)
 
-pub returns-then-text-ne-OPEN : goal.returns-then-text-ne-OPEN
-returns-then-text-ne-OPEN c =
+pub returns-then-not-opens : goal.returns-then-not-opens
+returns-then-not-opens c =
     let x = c.args in
-    sym (outcome-short x.room x.text.now c.if-text-gt-LONGEST_TEXT.false ∙ judge_shut x.room x.text.now (search rules) c.if-text-ne-OPEN.true)
+    sym (outcome-short x.room x.text.now c.if-text-gt-LONGEST_TEXT.false ∙ judge_shut x.room x.text.now (search rules) c.if-not-opens.true)
 
 pub returns-then-end-text : goal.returns-then-end-text
 returns-then-end-text c =

@@ -12,9 +12,9 @@ use Rattle.compare_profiles.specs.Parts.{value_room}
 use Rattle.compare_profiles.proofs.lines.put_value.Goals as goal
 use Rattle.compare_profiles.proofs.lines.put_value.Goals.{After-put_decimal}
 
-pub returns-then-value-eq-ABSENT : goal.returns-then-value-eq-ABSENT
-returns-then-value-eq-ABSENT c =
-    let is = c.if-value-eq-ABSENT.true in
+pub returns-then-is_absent : goal.returns-then-is_absent
+returns-then-is_absent c =
+    let is = c.if-is_absent.true in
     record {
       text = 0x2D ∷ [];
       value = rw is absent;
@@ -27,7 +27,7 @@ returns-then-value-eq-ABSENT c =
 short : (c : After-put_decimal) → c.put_decimal.result ≤ value_room
 short c =
     let e = c.put_decimal.ensures in
-    let below : c.args.value < 65536 = lt_of_le-ne c.requires.0 c.if-value-eq-ABSENT.false in
+    let below : c.args.value < 65536 = lt_of_le-ne c.requires.0 c.if-is_absent.false in
     omega (arith, e.as_many, places-at-most 5 c.args.value e.decimal.places (omega arith) (omega (arith, below)) e.decimal.fewest)
 
 pub overflow_add-result-2 : goal.overflow_add-result-2
@@ -39,7 +39,7 @@ returns c =
     let few : length e.number ≤ value_room = omega (arith, short (goal.at.returns c).After-put_decimal, e.counted) in
     record {
       text = e.number;
-      value = number (lt_of_le-ne c.requires.0 c.if-value-eq-ABSENT.false) e.decimal;
+      value = number (lt_of_le-ne c.requires.0 c.if-is_absent.false) e.decimal;
       short = few;
       there = e.there ∙ put-fits c.args.text.now c.args.at e.number (omega (arith, c.requires.1));
       behind = ap (λ (n : ℕ). c.args.at + n) e.counted;

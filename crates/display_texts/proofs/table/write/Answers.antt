@@ -31,5 +31,5 @@ pub returns-then-answer-eq-DONE : goal.returns-then-answer-eq-DONE
 returns-then-answer-eq-DONE c =
     let a = c.args in
     let accepted = (write_accepted _ _ _ _ (sym c.write_answer-answer.ensures ∙ c.if-answer-eq-DONE.true)).2 in
-    let there = put-there a.table.now a.«data».now c.put.new.out a.at.0 _ c.wide_word.ensures.0 accepted c.if-table-lt-TABLE_ROOM.false c.put.ensures in
-    record { answers = roomy _ _ _ _ _ _ c.if-table-lt-TABLE_ROOM.false c.write_answer-answer.ensures; lengthens = rw c.if-answer-eq-DONE.true c.length_after-length.ensures; leaves = rw c.if-answer-eq-DONE.true there }
+    let there = put-there a.table.now a.«data».now c.put.new.out a.at.0 _ c.wide_word.ensures.0 accepted c.if-short.false c.put.ensures in
+    record { answers = roomy _ _ _ _ _ _ c.if-short.false c.write_answer-answer.ensures; lengthens = rw c.if-answer-eq-DONE.true c.length_after-length.ensures; leaves = rw c.if-answer-eq-DONE.true there }

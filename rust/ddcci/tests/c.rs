@@ -1,9 +1,8 @@
 //! The C headers: programs are compiled with them by C89, C99, C17 and C++, linked with the static libraries and run.
 mod common;
-use common::{code_block, compiled_as, repository, text_of, written_by, C17, C89, C99, CPP};
+use common::{code_block, compiled_as, repository, text_of, written_by, Linked, C17, C89, C99, CPP};
 use ddcci::Refusal;
 use std::fs;
-use std::os::unix::fs::symlink;
 use std::path::Path;
 use std::process::Command;
 
@@ -88,13 +87,8 @@ fn c_file(name: &str) -> std::path::PathBuf {
 fn documented(name: &str) -> String {
     let source = text_of(&format!("c/{name}.c"));
     let command = source.lines().find_map(|line| line.strip_prefix(" *     cc ")).expect("a file shows its command");
-    let folder = Path::new(env!("CARGO_TARGET_TMPDIR")).join(format!("documented-{name}"));
-    let _ = fs::remove_dir_all(&folder);
-    fs::create_dir_all(&folder).unwrap();
-    for part in ["c", "include", "target"] {
-        symlink(repository().join(part), folder.join(part)).unwrap();
-    }
-    let output = Command::new("sh").current_dir(&folder).arg("-c").arg(format!("cc {command}")).output().unwrap();
+    let folder = Linked::new(&format!("documented-{name}"), &["c", "include", "target"]);
+    let output = Command::new("sh").current_dir(&folder.0).arg("-c").arg(format!("cc {command}")).output().unwrap();
     assert!(output.status.success() && output.stderr.is_empty(), "{}", String::from_utf8_lossy(&output.stderr));
     String::from_utf8(output.stdout).unwrap()
 }

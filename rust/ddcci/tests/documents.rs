@@ -1,9 +1,8 @@
 //! What README and the guides show is run: commands with what they write, and snippets as parts of programs that run.
 mod common;
-use common::{code_block, code_blocks, example, program, repository, text_of, written_by};
+use common::{code_block, code_blocks, example, program, repository, text_of, written_by, Linked};
 use std::collections::BTreeSet;
 use std::fs;
-use std::os::unix::fs::symlink;
 use std::path::{Path, PathBuf};
 use std::process::{Command, Stdio};
 
@@ -59,13 +58,9 @@ fn the_links_lead_to_files() {
 }
 
 /// A folder of its own with what commands need of the repository.
-fn folder(name: &str) -> PathBuf {
-    let folder = Path::new(env!("CARGO_TARGET_TMPDIR")).join(name);
-    let _ = fs::remove_dir_all(&folder);
-    fs::create_dir_all(folder.join("rust")).unwrap();
-    for part in ["target", "crates"] {
-        symlink(repository().join(part), folder.join(part)).unwrap();
-    }
+fn folder(name: &str) -> Linked {
+    let folder = Linked::new(name, &["target", "crates"]);
+    fs::create_dir_all(folder.0.join("rust")).unwrap();
     folder
 }
 
@@ -115,7 +110,7 @@ fn the_commands_of_readme_write_what_it_shows() {
         }
         for (command, writes) in commands(&block) {
             let wanted: String = writes.iter().map(|line| format!("{line}\n")).collect();
-            assert_eq!(run_in(&folder, command), wanted, "{command}");
+            assert_eq!(run_in(&folder.0, command), wanted, "{command}");
             ran += 1;
         }
     }
@@ -165,7 +160,7 @@ fn the_examples_of_the_display_pipe() {
         let (command, text) = example.split_once('\n').expect("a text stands behind the command");
         let run = command.replace("| display_pipe | xxd", "| target/bin/display_pipe | od -An -v -tx1");
         let bytes: Vec<String> =
-            run_in(&folder, &format!("printf {run}")).split_whitespace().map(str::to_string).collect();
+            run_in(&folder.0, &format!("printf {run}")).split_whitespace().map(str::to_string).collect();
         assert_eq!(bytes.join(" "), parts.join(" "));
         for part in parts {
             assert!(text.contains(&format!("`{part}`")), "{part}");
@@ -196,19 +191,27 @@ fn edits() -> BTreeSet<String> {
     edits
 }
 
-/// Every word of the definitions and proofs that has a hyphen in it, as the names of laws and theorems have.
-fn names_of_laws() -> BTreeSet<String> {
+/// Whether a name is of two words, as the names of laws, theorems and most functions are.
+fn of_two_words(name: &str) -> bool {
+    name.trim_matches('_').contains(['-', '_'])
+}
+
+/// Every word of the crates' files in a folder of theirs, and of the Rust tests, that is of two words.
+fn names_of_two_words() -> BTreeSet<String> {
+    let mut folders: Vec<PathBuf> =
+        ["rust/ddcci/tests", "rust/oracle/tests"].map(|part| repository().join(part)).into();
     let mut names = BTreeSet::new();
     for entry in fs::read_dir(repository().join("crates")).unwrap() {
-        for part in ["specs", "proofs"] {
-            for file in fs::read_dir(entry.as_ref().unwrap().path().join(part)).into_iter().flatten() {
-                let path = file.unwrap().path();
-                if path.extension().is_some_and(|extension| extension == "antt") {
-                    let text = fs::read_to_string(path).unwrap();
-                    let words = text.split(|c: char| !(c.is_alphanumeric() || c == '-'));
-                    names.extend(words.filter(|word| word.contains('-')).map(str::to_string));
-                }
-            }
+        let folder = entry.unwrap().path();
+        names.insert(folder.file_name().unwrap().to_str().unwrap().to_string());
+        folders.extend(["specs", "proofs", "src"].map(|part| folder.join(part)));
+    }
+    for file in folders.iter().flat_map(|folder| fs::read_dir(folder).into_iter().flatten()) {
+        let path = file.unwrap().path();
+        if path.extension().is_some_and(|extension| ["antt", "rt", "rs"].iter().any(|known| extension == *known)) {
+            let text = fs::read_to_string(path).unwrap();
+            let words = text.split(|c: char| !(c.is_alphanumeric() || c == '-' || c == '_'));
+            names.extend(words.filter(|word| of_two_words(word)).map(str::to_string));
         }
     }
     names
@@ -216,9 +219,10 @@ fn names_of_laws() -> BTreeSet<String> {
 
 #[test]
 fn the_statements_cite_laws_that_there_are() {
-    let (text, names) = (text_of("docs/STATEMENTS.md"), names_of_laws());
-    let of_a_law = |name: &&str| name.contains('-') && name.chars().all(|c| c.is_ascii_alphanumeric() || c == '-');
-    for name in text.split('`').skip(1).step_by(2).filter(of_a_law) {
+    let (text, names) = (text_of("docs/STATEMENTS.md"), names_of_two_words());
+    let a_name =
+        |name: &&str| of_two_words(name) && name.chars().all(|c| c.is_ascii_alphanumeric() || c == '-' || c == '_');
+    for name in text.split('`').skip(1).step_by(2).filter(a_name).filter(|name| !name.ends_with('_')) {
         assert!(names.contains(name), "docs/STATEMENTS.md cites {name}, which no crate has");
     }
 }

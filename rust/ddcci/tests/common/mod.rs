@@ -32,6 +32,28 @@ pub fn text_of(path: &str) -> String {
     std::fs::read_to_string(repository().join(path)).unwrap_or_else(|why| panic!("{path}: {why}"))
 }
 
+/// A folder of its own with links to parts of the repository, which is removed when the test has ended.
+/// It stands outside the repository, since `rt ci` refuses a checkout that has links.
+pub struct Linked(pub PathBuf);
+
+impl Linked {
+    pub fn new(name: &str, parts: &[&str]) -> Linked {
+        let folder = std::env::temp_dir().join(format!("paneknoll-{name}-{}", std::process::id()));
+        let _ = std::fs::remove_dir_all(&folder);
+        std::fs::create_dir_all(&folder).unwrap();
+        for part in parts {
+            std::os::unix::fs::symlink(repository().join(part), folder.join(part)).unwrap();
+        }
+        Linked(folder)
+    }
+}
+
+impl Drop for Linked {
+    fn drop(&mut self) {
+        let _ = std::fs::remove_dir_all(&self.0);
+    }
+}
+
 /// The C standards that programs are compiled by, with the compiler of each.
 pub const C99: &[&str] = &["cc", "-std=c99"];
 pub const C89: &[&str] = &["cc", "-std=c89"];

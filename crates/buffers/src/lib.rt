@@ -99,13 +99,24 @@ pub fn fits(room: usize, at: usize, n: usize) -> bool
     true
 }
 
-// Copies bytes to the front of a buffer that has room for them, and returns how many they are.
-// What stands behind them in the buffer stays.
-pub fn copy(s: &[u8], out: &mut [u8]) -> usize
+// Lays bytes over the front of a buffer that has room for them.
+fn lay(s: &[u8], out: &mut [u8])
     requires { length s.now ≤ length out.old }
-    ensures { (result ≡ length s.now) × (out.new ≡ s.now ++ drop (length s.now) out.old) }
+    ensures { out.new ≡ s.now ++ drop (length s.now) out.old }
 {
     out[..s.len()].copy_from_slice(s);
+}
+
+// Copies bytes to the front of a buffer; none, where they do not all fit.
+// Returns how many it copied.
+pub fn copy(s: &[u8], out: &mut [u8]) -> usize
+    ensures whole { length s.now ≤ length out.old → (result ≡ length s.now) × (out.new ≡ s.now ++ drop (length s.now) out.old) }
+    ensures none { length out.old < length s.now → (result ≡ 0) × (out.new ≡ out.old) }
+{
+    if out.len() < s.len() {
+        return 0;
+    }
+    lay(s, out);
     s.len()
 }
 
@@ -114,7 +125,7 @@ pub fn put(out: &mut [u8], at: usize, s: &[u8])
     ensures { out.new ≡ put_whole out.old at s.now }
 {
     if fits(out.len(), at, s.len()) {
-        copy(s, &mut out[at..]);
+        lay(s, &mut out[at..]);
     }
 }
 
@@ -129,8 +140,8 @@ pub fn put_octet(out: &mut [u8], at: usize, b: u8)
 
 // Returns the index of the first byte b from an index on, or the length where there is none.
 pub fn find(s: &[u8], from: usize, b: u8) -> usize
-    requires { from ≤ length s.now }
-    ensures within { (from ≤ result) × (result ≤ length s.now) }
+    ensures within { result ≤ length s.now }
+    ensures after { from ≤ length s.now → from ≤ result }
     ensures before { (k : ℕ) → from ≤ k → k < result → get_or s.now k 0 ≢ b }
     ensures found { result < length s.now → get_or s.now result 0 ≡ b }
 {

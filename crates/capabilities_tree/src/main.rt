@@ -21,7 +21,7 @@ fn main(rt: HostRuntime) {
     let got = io::read_full(STDIN_FILENO, &mut input);
     if got > 0 {
         show_string(&input[..got]);
-    } else if show::input::readable(&rt) {
+    } else if show::input::readable(&mut rt.reader()) {
         show_string(b"");
     } else {
         show::text(

@@ -99,7 +99,7 @@ fn reply_numbers(read: ReplyRead) -> ReplyNumbers
 }
 
 // Returns the fields of a reply to the host, or the answer that refuses it; the null message is 12.
-// `read_display_reply` does the same, and is not called: a reader that only one export uses is inlined into it.
+// `read_display_reply` does the same, and is not called: a reader that only one function uses is inlined into it.
 pub fn ddcci_read_reply(message: &[u8]) -> ReplyNumbers
     ensures { ReadsReply message.now result }
 {

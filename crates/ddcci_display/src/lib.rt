@@ -69,7 +69,7 @@ pub fn ddcci_display_next_declared(d: Display, from: u16) -> u16
 
 // Answers one message to the display, and returns the display afterwards.
 // This is the one step that there is: programs in Rattle call it too.
-// Each case has a `return` of its own, so that the display is copied once (docs/PROVING-NOTES.md).
+// Each case has a `return` of its own, to keep the copies of the display few (docs/PROVING-NOTES.md).
 pub fn ddcci_display_step(
     d: Display,
     text: &[u8],
@@ -108,7 +108,7 @@ pub fn ddcci_display_step(
 // Sets each code to its value, one after the other, and writes the answer of each at its place.
 // Returns the display afterwards and the call's own answer.
 // With fewer answers than codes that is 1, then with over 64 or unequally many codes and values 7: nothing is tried then.
-// The timing's numbers are read and stored, so that the arrays between them are copied once (docs/PROVING-NOTES.md).
+// The timing's numbers are read and stored, to keep the copies of the arrays between them few (docs/PROVING-NOTES.md).
 pub fn ddcci_display_set_all(
     mut d: Display,
     codes: &[u8],

@@ -90,7 +90,7 @@ fn write_record(kind: u8, body: &[u8]) -> bool {
 
 // Returns what is wrong where no byte came: an input that has ended, or one that cannot be read.
 fn silence(rt: &impl Input) -> u8 {
-    if show::input::readable(rt) {
+    if show::input::readable(&mut rt.reader()) {
         return ENDED;
     }
     NOT_READ

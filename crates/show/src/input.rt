@@ -2,9 +2,8 @@
 
 use std::io::Read;
 
-// Returns whether standard input can be read: one that has ended can, a directory or a closed one cannot.
-pub fn readable(rt: &impl Input) -> bool {
+// Returns whether an input can be read: one that has ended can, a directory or a closed one cannot.
+pub fn readable<R: Read>(from: &mut R) -> bool {
     let mut one = [0u8; 1];
-    let mut from = rt.reader();
     from.read(&mut one).is_ok()
 }

@@ -8,18 +8,18 @@ use Rattle.buffers.proofs.Puts.{put-fits, put_not, put_copied}
 use borrow.Author.Rules.{rules}
 use Rattle.buffers.proofs.put.Goals as goal
 
-pub slice_bounds-copy-count : goal.slice_bounds-copy-count
-slice_bounds-copy-count c =
+pub slice_bounds-lay-count : goal.slice_bounds-lay-count
+slice_bounds-lay-count c =
     let room : c.args.at + length c.args.s.now ≤ length c.args.out.now = leb-true _ _ (sym c.fits.ensures ∙ c.if-fits.true) in
     omega (arith, room)
 
-pub slice_bounds-copy-start : goal.slice_bounds-copy-start
-slice_bounds-copy-start c =
+pub slice_bounds-lay-start : goal.slice_bounds-lay-start
+slice_bounds-lay-start c =
     let room : c.args.at + length c.args.s.now ≤ length c.args.out.now = leb-true _ _ (sym c.fits.ensures ∙ c.if-fits.true) in
     omega (arith, room)
 
-pub copy-requires : goal.copy-requires
-copy-requires c =
+pub lay-requires : goal.lay-requires
+lay-requires c =
     let room : c.args.at + length c.args.s.now ≤ length c.args.out.now = leb-true _ _ (sym c.fits.ensures ∙ c.if-fits.true) in
     let h = room in search rules
 
@@ -28,7 +28,7 @@ returns-then-fits c =
     let room : c.args.at + length c.args.s.now ≤ length c.args.out.now = leb-true _ _ (sym c.fits.ensures ∙ c.if-fits.true) in
     let a = c.args in
     let h = room in
-    put_copied a.at (length a.out.now) a.out.now a.s.now c.copy.new.out h refl c.copy.ensures.1
+    put_copied a.at (length a.out.now) a.out.now a.s.now c.lay.new.out h refl c.lay.ensures
     ∙ sym (put-fits a.out.now a.at a.s.now h)
 
 pub returns-else-fits : goal.returns-else-fits

@@ -13,6 +13,7 @@ use Rattle.message_rules.specs.Limits.{output_room}
 use Rattle.message_rules.specs.Frame.{closed}
 use Rattle.message_output.specs.declared.Built.TheVariants.{Refused}
 use Rattle.message_output.proofs.Outputs.{builds-none, builds-refused, builds-done, too_long, short-enough, built}
+use borrow.Author.Rules.{rules}
 use Rattle.message_output.proofs.build.Goals as goal
 
 pub returns-then-out-lt-OUTPUT_ROOM : goal.returns-then-out-lt-OUTPUT_ROOM
@@ -28,6 +29,8 @@ pub returns : goal.returns
 returns c =
     let a = c.args in
     let sum : c.checksum-sum.result ≡ xor_all (xor_all a.seed a.head.now) a.«data».now = c.checksum-sum.ensures ∙ ap (λ (s : ℕ). xor_all s a.«data».now) c.singly.ensures in
+    let first = c.copy-at.ensures.whole (omega arith) in
+    let second = c.copy-more.ensures.whole (search rules) in
     let e = built a.seed c.checksum-sum.result c.copy-at.result c.copy-more.result (length c.copy-at.new.out) c.close.result a.head.now a.«data».now a.out.now c.copy-at.new.out c.copy-more.new.out c.close.new.out
-    (omega arith) sum c.copy-at.ensures.0 c.copy-at.ensures.1 refl c.copy-more.ensures.0 c.copy-more.ensures.1 c.close.ensures.0 c.close.ensures.1 in
+    (omega arith) sum first.0 first.1 refl second.0 second.1 c.close.ensures.0 c.close.ensures.1 in
     builds-done _ (closed a.seed (a.head.now ++ a.«data».now)) a.out.now (omega arith) (short-enough a.seed a.head.now a.«data».now true (omega arith)) c.close.result c.close.new.out e.0 e.1

@@ -1,6 +1,7 @@
 /* Paneknoll: the display's end of VESA DDC/CI 1.1, for a controller. docs/CONTROLLER.md is its guide.
  *
- * Link target/staticlib/libddcci_display.a, which is built for x86-64 Linux; it needs memcpy and memset.
+ * Link target/staticlib/libddcci_display.a, which is built for x86-64 Linux; it needs memcpy, memmove
+ * and memset.
  *
  * Every function is proved, for all inputs, to be safe, to end and to answer as the papers say: document 01,
  * and document 02 for many settings in one call. None allocates. Each answer is a number of `enum
@@ -9,9 +10,9 @@
  * not overlap.
  *
  * The display is a struct by value: a call is given the display as the last one left it. A call takes stack,
- * here measured on x86-64 with the copies that its caller makes: a start and the two that look declared codes
- * up 1.8 KB, a declaration 7.0 KB, a step and many settings in one call 4.7 KB each, writing a profile 3.5 KB,
- * loading one 7.0 KB.
+ * here measured on x86-64 with the copies that its caller makes: a start 4.2 KB, the two that look declared
+ * codes up 1.8 KB, a declaration 7.0 KB, a step 7.6 KB, many settings in one call 4.7 KB, writing a profile
+ * 3.5 KB, loading one 10.4 KB.
  *
  * Behind an I2C slave: its address is 37, and is not in the slices. One write is one message, from 51 on. A
  * read starts with 6E, which the reply and the null message begin with; any bytes may follow them. */

@@ -139,9 +139,10 @@ pub fn put_octet(out: &mut [u8], at: usize, b: u8)
 }
 
 // Returns the index of the first byte b from an index on, or the length where there is none.
+// Behind the end there is none.
 pub fn find(s: &[u8], from: usize, b: u8) -> usize
+    ensures after { min from (length s.now) ≤ result }
     ensures within { result ≤ length s.now }
-    ensures after { from ≤ length s.now → from ≤ result }
     ensures before { (k : ℕ) → from ≤ k → k < result → get_or s.now k 0 ≢ b }
     ensures found { result < length s.now → get_or s.now result 0 ≡ b }
 {

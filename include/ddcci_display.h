@@ -10,9 +10,9 @@
  * not overlap.
  *
  * The display is a struct by value: a call is given the display as the last one left it. A call takes stack,
- * here measured on x86-64 with the copies that its caller makes: a start 4.2 KB, the two that look declared
- * codes up 1.8 KB, a declaration 7.0 KB, a step 7.6 KB, many settings in one call 4.7 KB, writing a profile
- * 3.5 KB, loading one 10.4 KB.
+ * here measured on x86-64 with the copies that its caller makes: a start 3.5 KB, the two that look declared
+ * codes up 1.8 KB, a declaration 7.0 KB, a step 8.8 KB, many settings in one call 4.7 KB, writing a profile
+ * 3.5 KB, loading one 8.7 KB.
  *
  * Behind an I2C slave: its address is 37, and is not in the slices. One write is one message, from 51 on. A
  * read starts with 6E, which the reply and the null message begin with; any bytes may follow them. */

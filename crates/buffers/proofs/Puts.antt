@@ -1,12 +1,11 @@
 -- Bytes put into a buffer: nothing, from its start on, and one run behind another.
 use mathlib.Core.Path.{◌≡◌, refl, sym, ap, ap₂, ◌∙◌}
-use mathlib.Core.List.{List, [], ◌++◌, append_assoc, append-nil}
-use Prim.Native.Nat.{ℕ, ◌+◌, ◌-◌, ◌≤◌, ◌<◌}
+use mathlib.Core.List.{List, [], ◌++◌, append_assoc}
+use Prim.Native.Nat.{ℕ, ◌+◌, ◌≤◌, ◌<◌}
 use native.Mathlib.Omega.{arith}
-use lib.ListN.{length, take, drop, length-append, length-drop, take-append-drop, drop_of_length-le}
-use lib.Seq.{sets, sets-eq, take_at, take_all, drop_at, drop-append-add, drop-drop, length-take-le}
+use lib.ListN.{length, take, drop, length-append, length-drop, take-append-drop}
+use lib.Seq.{sets, sets-eq, take_at, drop_at, drop-append-add, drop-drop, length-take-le}
 use borrow.Author.Tests.{le-leb, lt-leb}
-use borrow.Rule.Slice.PartMut.{mid_of, post_of, put_mid, Post-is}
 use Rattle.buffers.specs.Buffers.{over, put, put_whole}
 
 -- nothing put
@@ -26,15 +25,6 @@ put_not out at s h = rw (lt-leb (at + length s) (length out) h)
 -- bytes stored one by one
 pub put_sets : (out : List ℕ) (at : ℕ) (s : List ℕ) → at + length s ≤ length out → sets out at s ≡ put out at s
 put_sets out at s h = sets-eq s out at h ∙ append_assoc (take at out) s (drop (at + length s) out)
-
--- a copy into the part of the output from an index on
-pub put_copied : (at end : ℕ) (out s ys : List ℕ) → at + length s ≤ length out → end ≡ length out → ys ≡ s ++ drop (length s) (mid_of at (end - at) out)
-    → put_mid at (end - at) out ys ≡ put out at s
-put_copied at end out s ys h l f =
-    let whole : mid_of at (end - at) out ≡ drop at out = take_all (end - at) (drop at out) (omega (arith, length-drop at out)) in
-    let none : post_of at (end - at) out ≡ [] = Post-is at end out (omega arith) ∙ drop_of_length-le out {i = end} (omega arith) in
-    let part : ys ≡ s ++ drop (at + length s) out = f ∙ ap (λ (y : List ℕ). s ++ drop (length s) y) whole ∙ ap (λ (x : List ℕ). s ++ x) (drop-drop (length s) at out) in
-    ap₂ (λ (x y : List ℕ). take at out ++ (x ++ y)) part none ∙ ap (λ (x : List ℕ). take at out ++ x) (append-nil (s ++ drop (at + length s) out))
 
 -- from the start of the output
 pub put-over : (s out : List ℕ) → put out 0 s ≡ over s out

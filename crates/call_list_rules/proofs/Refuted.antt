@@ -6,6 +6,7 @@
 use mathlib.Core.Path.{◌≡◌, refl, sym, ap, ◌∙◌}
 use mathlib.Core.Bool.{Bool, cond, ◌&&◌}
 use mathlib.Core.List.{List, [], ◌∷◌}
+use Rattle.std.specs.Prelude.{Some, None, Ok, Err}
 use Prim.Native.Nat.{ℕ, suc, ◌-◌, ◌/◌, ◌≤◌}
 use native.Mathlib.Omega.{arith}
 use lib.ListN.{length, drop, replicate, length-replicate}
@@ -14,12 +15,10 @@ use Rattle.message_rules.specs.Answer.{done, text_too_long, broken_record, repea
 use Rattle.records.specs.Numbers.{word_at}
 use Rattle.records.specs.Records.{begins_with}
 use Rattle.call_list_rules.specs.Limits.{entry_kind}
-use Rattle.call_list_rules.specs.CallList.{start_of, is_whole, token_of, household_of, among, record_answer, refused_at, first_refused, begun_in, check_list, search_from, find_as, find_household, entry_of}
+use Rattle.call_list_rules.specs.CallList.{start_of, is_whole, token_of, household_of, among, record_answer, refused_at, first_refused, begun_in, check_list, search_from, Found, find_as, find_household, entry_of}
 use Rattle.call_list_rules.specs.Statements.{record_then, CheckRule, FindRule, AcceptsExactly, FirstRefused, FindsExactly, EntryRule, EntriesGiven}
 use Rattle.call_list_rules.specs.declared.Checked.{Checked}
 use Rattle.call_list_rules.specs.declared.Entry.{Entry}
-use Rattle.call_list_rules.specs.declared.Found.{Found}
-use Rattle.call_list_rules.specs.declared.Found.TheVariants.{At, Absent, Refused}
 use Rattle.call_list_rules.proofs.Searching.{counted}
 use Rattle.call_list_rules.proofs.Theorems.{accepts-exactly, first-refused, finds-exactly, entries-given}
 
@@ -161,9 +160,9 @@ empty_refused_refuted h =
 -- ---- the query
 
 abbrev onward : Found → Found
-onward (At k) = At (record { 0 = suc k.0 })
-onward Absent = Absent
-onward (Refused a p) = Refused a p
+onward (Ok (Some k)) = Ok (Some (record { 0 = suc k.0 }))
+onward (Ok None) = Ok None
+onward (Err c) = Err c
 
 -- entries counted from 1
 abbrev from_one : FindRule
@@ -180,7 +179,7 @@ from_one_refuted h =
 
 -- a list that is refused is searched all the same
 abbrev any_list : FindRule
-any_list s h = search_from (household_of s) h (begun_in (length s)) 0
+any_list s h = Ok (search_from (household_of s) h (begun_in (length s)) 0)
 
 pub any_list_refuted : FindsExactly check_list any_list → ⊥
 unfolding find_household find_as search_from check_list first_refused record_answer among begins_with

@@ -2,6 +2,7 @@
 use mathlib.Core.Path.{◌≡◌, refl, sym, ap, ap₂, subst, ◌∙◌}
 use mathlib.Core.Bool.{Bool, true, false, cond, true≢false}
 use mathlib.Core.List.{List, [], map}
+use Rattle.std.specs.Prelude.{Ok, Err}
 use Prim.Native.Nat.{ℕ, suc, ◌+◌, ◌-◌, ◌*◌, ◌≤◌, ◌<◌}
 use native.Mathlib.Omega.{arith}
 use lib.ListN.{length, get_or, drop, length-drop, length-map, drop_of_length-le, get_or-map, get_or-eq_default}
@@ -14,7 +15,6 @@ use Rattle.call_list_rules.specs.CallList.{start_of, is_whole, token_of, househo
 use Rattle.call_list_rules.specs.Statements.{record_then, entry_in, Records, Good, IsList, SomeList, AcceptsExactly, AtMost85, OnlyEntries, Bad, broken, token, household, RefusedFirst, FirstRefused, Finds, FindsExactly, Stands, EntriesGiven, tokens_of, households_of}
 use Rattle.call_list_rules.specs.declared.Checked.{Checked}
 use Rattle.call_list_rules.specs.declared.Entry.{Entry}
-use Rattle.call_list_rules.specs.declared.Found.TheVariants.{Refused}
 use Rattle.call_list_rules.proofs.Among.{Agrees, distinct, not_repeated, among_stands, stands-among}
 use Rattle.call_list_rules.proofs.First.{Walked, all, first, walked, passes, stops}
 use Rattle.call_list_rules.proofs.Records as records
@@ -251,12 +251,12 @@ unfolding find_household find_as
 finds es s h x =
     let f = household_of s in
     let n = length-map es (λ (e : Entry). e.household) in
-    let e : find_household s h ≡ search_from f h (length es) 0 = ap (find_as s h) (every es s x) in
+    let e : find_household s h ≡ Ok (search_from f h (length es) 0) = ap (find_as s h) (every es s x) in
     subst (Finds es h) (sym e)
     (searching.finds es f h (households_agree [] es s x.whole) x.good.households (search_from f h (length es) 0)
     (searching.searched f h (length (households_of es)) (length es) 0 (omega arith) (λ i l. absurd (omega arith))))
 
-find_refused : (s : List ℕ) (h : ℕ) → ((check_list s).answer ≡ 0 → ⊥) → find_household s h ≡ Refused (check_list s).answer (check_list s).position
+find_refused : (s : List ℕ) (h : ℕ) → ((check_list s).answer ≡ 0 → ⊥) → find_household s h ≡ Err (check_list s)
 unfolding find_household find_as
 find_refused s h z = rw (ne_eqb (check_list s).answer done z)
 

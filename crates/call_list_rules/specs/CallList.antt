@@ -1,13 +1,14 @@
 -- Document 02, K9: the gate check.
-use Rattle.std.specs.Prelude.{ℕ, zero, suc, ◌+◌, ◌-◌, ◌*◌, ◌/◌, Bool, false, cond, ◌||◌, List, length, drop, leb, eqb}
+use Rattle.std.specs.Prelude.{ℕ, zero, suc, ◌+◌, ◌-◌, ◌*◌, ◌/◌, Bool, false, cond, ◌||◌, List, length, drop, leb, eqb, Option, Some, None, Result, Ok, Err}
 use Rattle.message_rules.specs.Answer.{done, text_too_long, broken_record, repeated_token, repeated_household}
+use Rattle.message_rules.specs.Refusal.{number_of}
+use Rattle.message_rules.specs.declared.refusal.RefusedAt.{RefusedAt}
 use Rattle.records.specs.Numbers.{long_at}
 use Rattle.records.specs.Records.{begins_with}
 use Rattle.call_list_rules.specs.Limits.{longest_list, entry_kind, record_length, record_size, token_at, household_at}
 use Rattle.call_list_rules.specs.declared.Checked.{Checked}
 use Rattle.call_list_rules.specs.declared.Entry.{Entry}
-use Rattle.call_list_rules.specs.declared.Found.{Found}
-use Rattle.call_list_rules.specs.declared.Found.TheVariants.{At, Absent, Refused}
+use Rattle.call_list_rules.specs.declared.EntryNumber.{EntryNumber}
 
 -- ---- the records of a list
 
@@ -61,20 +62,34 @@ begun_in size = (size + (record_size - 1)) / record_size
 unfoldable pub check_list : List ℕ → Checked
 check_list s = cond (leb (length s) longest_list) (first_refused (record_answer s) (begun_in (length s)) 0) (refused_at text_too_long 0)
 
+-- what a check says that returns the number of the entries, or the refusal with its position
+abbrev pub checked_as : Result ℕ RefusedAt → Checked
+checked_as (Ok n) = accepted_with n
+checked_as (Err r) = refused_at (number_of r.refusal) r.position.0
+
 -- ---- the query
 
+-- the number of an entry, or that there is none; or how a list was checked that is not accepted
+abbrev pub Found : Type 0
+Found = Result (Option EntryNumber) Checked
+
 -- the number of the first of n entries, from entry k on, that has this household
-unfoldable pub search_from : (households : ℕ → ℕ) (household n k : ℕ) → Found
-search_from households household zero k = Absent
-search_from households household (suc n) k = cond (eqb (households k) household) (At (record { 0 = k })) (search_from households household n (suc k))
+unfoldable pub search_from : (households : ℕ → ℕ) (household n k : ℕ) → Option EntryNumber
+search_from households household zero k = None
+search_from households household (suc n) k = cond (eqb (households k) household) (Some (record { 0 = k })) (search_from households household n (suc k))
 
 -- "A query answers a household's position (records counted from 0), or that it isn't there; on a list that isn't
 -- accepted it gives the same refusal."
 unfoldable pub find_as : List ℕ → ℕ → Checked → Found
-find_as s household c = cond (eqb c.answer done) (search_from (household_of s) household c.entries 0) (Refused c.answer c.position)
+find_as s household c = cond (eqb c.answer done) (Ok (search_from (household_of s) household c.entries 0)) (Err c)
 
 unfoldable pub find_household : List ℕ → ℕ → Found
 find_household s household = find_as s household (check_list s)
+
+-- what a query says that returns the refusal with its position
+abbrev pub found_as : Result (Option EntryNumber) RefusedAt → Found
+found_as (Ok k) = Ok k
+found_as (Err r) = Err (checked_as (Err r))
 
 -- ---- the entries
 

@@ -1,10 +1,9 @@
 -- Document 02, K9, sentence by sentence, in literal bytes and the paper's own numbers. A statement takes the rule as a
 -- parameter: proofs/ proves it of CallList.antt's, and refutes it of wrong ones.
-use Rattle.std.specs.Prelude.{ℕ, ◌+◌, ◌*◌, ◌≤◌, ◌<◌, ◌≡◌, List, [], ◌∷◌, map, length, get_or}
+use Rattle.std.specs.Prelude.{ℕ, ◌+◌, ◌*◌, ◌≤◌, ◌<◌, ◌≡◌, List, [], ◌∷◌, map, length, get_or, Some, None, Ok, Err}
+use Rattle.call_list_rules.specs.CallList.{Found}
 use Rattle.call_list_rules.specs.declared.Checked.{Checked}
 use Rattle.call_list_rules.specs.declared.Entry.{Entry}
-use Rattle.call_list_rules.specs.declared.Found.{Found}
-use Rattle.call_list_rules.specs.declared.Found.TheVariants.{At, Absent, Refused}
 
 -- ---- the records of a list
 
@@ -119,15 +118,15 @@ FindRule = List ℕ → (household : ℕ) → Found
 
 -- "A query answers a household's position (records counted from 0), or that it isn't there": of a list of these entries
 pub record Finds (es : List Entry) (household : ℕ) (found : Found) : Type 0 where
-  pub there : (k : ℕ) → StandsAt household (households_of es) k → found ≡ At (record { 0 = k })
-  pub only : (k : ℕ) → found ≡ At (record { 0 = k }) → StandsAt household (households_of es) k
-  pub absent : (Stands household (households_of es) → ⊥) → found ≡ Absent
-  pub none : found ≡ Absent → Stands household (households_of es) → ⊥
+  pub there : (k : ℕ) → StandsAt household (households_of es) k → found ≡ Ok (Some (record { 0 = k }))
+  pub only : (k : ℕ) → found ≡ Ok (Some (record { 0 = k })) → StandsAt household (households_of es) k
+  pub absent : (Stands household (households_of es) → ⊥) → found ≡ Ok None
+  pub none : found ≡ Ok None → Stands household (households_of es) → ⊥
 
 pub record FindsExactly (check : CheckRule) (find : FindRule) : Type 0 where
   pub finds : (es : List Entry) (s : List ℕ) (household : ℕ) → IsList es s → Finds es household (find s household)
   -- "on a list that isn't accepted it gives the same refusal"
-  pub refused : (s : List ℕ) (household : ℕ) → ((check s).answer ≡ 0 → ⊥) → find s household ≡ Refused (check s).answer (check s).position
+  pub refused : (s : List ℕ) (household : ℕ) → ((check s).answer ≡ 0 → ⊥) → find s household ≡ Err (check s)
 
 -- ---- the entries
 

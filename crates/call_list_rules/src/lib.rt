@@ -8,7 +8,7 @@ use message_rules::Position;
 
 // An entry of a call list: what one record says.
 #[repr(C)]
-#[derive(Clone, Copy)]
+#[derive(Clone, Copy, PartialEq, Eq)]
 pub struct Entry {
     // The token that is called.
     pub token: u32,
@@ -19,12 +19,13 @@ pub struct Entry {
 // An entry's number: the records of a list counted from 0 (document 02's position of a household).
 // It counts records and not bytes, so it is no `Position`.
 #[repr(C)]
-#[derive(Clone, Copy)]
+#[derive(Clone, Copy, PartialEq, Eq, PartialOrd, Ord)]
 pub struct EntryNumber(pub usize);
 
-// How a list was checked.
+// How a list was checked, as C reads it.
+// Numbers with an answer number beside, not a Result: C takes this struct as it is.
 #[repr(C)]
-#[derive(Clone, Copy)]
+#[derive(Clone, Copy, PartialEq, Eq)]
 pub struct Checked {
     // The answer number: 0, 11, 17, 19 or 20.
     pub answer: u8,
@@ -32,15 +33,4 @@ pub struct Checked {
     pub entries: usize,
     // Where the record starts that is refused; after answer 0 the end of the list.
     pub position: Position,
-}
-
-// What a query for a household returns.
-#[derive(Clone, Copy)]
-pub enum Found {
-    // The number of the entry that has the household.
-    At(EntryNumber),
-    // No entry has it.
-    Absent,
-    // The list is not accepted: its answer number and position.
-    Refused(u8, Position),
 }

@@ -11,12 +11,10 @@ use lib.Seq.{sets, sets-eq}
 use Rattle.capabilities_rules.specs.Limits.{deepest, no_parent}
 use Rattle.capabilities_rules.specs.Grammar.{Node}
 use Rattle.capabilities_rules.specs.Machine.{before, after}
-use Rattle.capabilities_rules.specs.Outcome.{outcome, is_accepted}
+use Rattle.capabilities_rules.specs.Outcome.{outcome, is_accepted, Reading, Accepted, Refused}
 use Rattle.capabilities_rules.specs.Nodes.{nodes, nodes_of}
 use Rattle.buffers.specs.Buffers.{over}
 use Rattle.capabilities_rules.specs.Buffers.{Buffers, buffers, buffer_room, written}
-use Rattle.capabilities_rules.specs.declared.Reading.{Reading}
-use Rattle.capabilities_rules.specs.declared.Reading.TheVariants.{Accepted, Refused}
 use Rattle.capabilities_rules.proofs.Whole.{accepted, nodes-past, nodes_open, judge-count, outcome-short}
 use Rattle.capabilities_reader.specs.Filler.{put, stored, Fillable, Filled}
 

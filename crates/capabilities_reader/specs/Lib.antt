@@ -1,1 +1,2 @@
 pub mod Filler
+pub mod Lent

@@ -6,38 +6,33 @@
 mod filler;
 
 ghost use Rattle.std.specs.Prelude.{◌≡◌};
-ghost use Rattle.capabilities_rules.specs.Buffers.{buffers, room_of, Answered};
+ghost use Rattle.capabilities_rules.specs.Buffers.{buffers, Answered};
+ghost use Rattle.capabilities_rules.specs.Outcome.{reading_of};
 
-use buffers::least;
 use capabilities_checker::check;
-use capabilities_rules::Reading;
-use capabilities_rules::limits::MOST_NODES;
-
-// Returns the room for nodes, from the lengths of the four buffers.
-fn room_of(a: usize, b: usize, c: usize, d: usize) -> usize
-    ensures { result ≡ room_of a b c d }
-{
-    least(MOST_NODES, least(least(a, b), least(c, d)))
-}
+use filler::NodeBuffers;
+use message_rules::refusal::RefusedAt;
 
 // Reads a capabilities string, and stores its nodes in the lent buffers where it is accepted.
-// Returns the number of nodes, or the refusal's answer number and position.
+// Returns the number of nodes, or the refusal and its position.
+// A string that is refused leaves the buffers as they were.
+// Four slices, not a struct of them: each caller has them one by one, as C hands them over.
 pub fn read(
     text: &[u8],
     starts: &mut [u16],
     lengths: &mut [u16],
     parents: &mut [u16],
     groups: &mut [u8],
-) -> Reading
-    ensures { Answered text.now (buffers starts.old lengths.old parents.old groups.old) (buffers starts.new lengths.new parents.new groups.new) result }
+) -> Result<usize, RefusedAt>
+    ensures { Answered text.now (buffers starts.old lengths.old parents.old groups.old) (buffers starts.new lengths.new parents.new groups.new) (reading_of result) }
 {
-    let room = room_of(starts.len(), lengths.len(), parents.len(), groups.len());
-    let judged = check(text, room);
-    match judged {
-        Reading::Accepted(count) => {
-            filler::fill(text, starts, lengths, parents, groups);
-            Reading::Accepted(count)
-        }
-        Reading::Refused(number, place) => Reading::Refused(number, place),
-    }
+    let mut nodes = NodeBuffers {
+        starts,
+        lengths,
+        parents,
+        groups,
+    };
+    let count = check(text, nodes.room())?;
+    filler::fill(text, &mut nodes);
+    Ok(count)
 }

@@ -7,12 +7,11 @@ use mathlib.Core.Option.{some}
 use native.Mathlib.Omega.{arith}
 use Rattle.capabilities_rules.specs.Limits.{no_parent}
 use Rattle.capabilities_rules.specs.Machine.{run_by, kind_of, Phase, before, inside, after, act, to, moved, run}
-use Rattle.capabilities_rules.specs.Outcome.{judge, unless, fault, counted, ending, outcome, is_accepted}
+use Rattle.capabilities_rules.specs.Outcome.{judge, unless, fault, counted, ending, outcome, is_accepted, Accepted}
 use Rattle.capabilities_rules.specs.Nodes.{nodes, nodes_of}
 use Rattle.capabilities_rules.specs.Grammar.{Items, Text, size, nodes_from, Fits}
 use Rattle.capabilities_rules.specs.Kinds.{Act}
 use Rattle.capabilities_rules.specs.Kinds.{Enter, Leave, Begin, Extend, Skip, Refuse}
-use Rattle.capabilities_rules.specs.declared.Reading.TheVariants.{Accepted}
 use Rattle.capabilities_rules.proofs.Laws.{unless-read}
 use Rattle.capabilities_rules.proofs.Whole.{accepted, outcome-short}
 use Rattle.capabilities_rules.proofs.Walk.{walk_text}

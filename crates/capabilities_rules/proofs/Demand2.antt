@@ -4,15 +4,12 @@ use Prim.Native.Nat.{ℕ, zero, suc}
 use mathlib.Core.Path.{◌≡◌, refl, sym, ap, ◌∙◌}
 use mathlib.Core.List.{List}
 use native.Mathlib.Omega.{arith}
-use Rattle.message_rules.specs.declared.Position.{Position}
 use Rattle.capabilities_rules.specs.Grammar.{Items, Node, Fits, size, nodes_from}
-use Rattle.capabilities_rules.specs.Outcome.{told, refused, outcome}
+use Rattle.capabilities_rules.specs.Outcome.{told, Refused, outcome, Reading, Accepted}
 use Rattle.capabilities_rules.specs.Nodes.{nodes_of}
 use Rattle.capabilities_rules.specs.Buffers.{Buffers, written, Answered}
 use Rattle.capabilities_rules.specs.Prefixes.{Why, too_long, cut_short, wrong_byte, ninth-open, no_node}
 use Rattle.capabilities_rules.specs.Demand2.{room_in, Holds, Accepts, ReadRightly, Demand2}
-use Rattle.capabilities_rules.specs.declared.Reading.{Reading}
-use Rattle.capabilities_rules.specs.declared.Reading.TheVariants.{Accepted, Refused}
 use Rattle.capabilities_rules.proofs.Theorems.{theorems}
 
 -- no reason has the number 0
@@ -24,14 +21,14 @@ not_done (ninth-open _ _ _ _ _ _) e = omega arith
 not_done (no_node _ _ _ _ _) e = omega arith
 
 -- so a refusal's number is not 0, and what was lent stays
-pub refusal-number : (room k : ℕ) (p : Position) (s : List ℕ) → outcome room s ≡ Refused k p → k ≡ 0 → ⊥
-refusal-number room k p s e = not_done (theorems.refusals room k p.0 s e)
+pub refusal-number : (room k p : ℕ) (s : List ℕ) → outcome room s ≡ Refused k p → k ≡ 0 → ⊥
+refusal-number room k p s e = not_done (theorems.refusals room k p s e)
 
 leaves : (k : ℕ) (xs : List Node) (t : Buffers) → (k ≡ 0 → ⊥) → written k xs t ≡ t
 leaves zero xs t h = absurd (h refl)
 leaves (suc k) xs t h = refl
 
-pub refusal-leaves : (room k : ℕ) (p : Position) (s : List ℕ) (xs : List Node) (t : Buffers) → outcome room s ≡ Refused k p → written k xs t ≡ t
+pub refusal-leaves : (room k p : ℕ) (s : List ℕ) (xs : List Node) (t : Buffers) → outcome room s ≡ Refused k p → written k xs t ≡ t
 refusal-leaves room k p s xs t e = leaves k xs t (refusal-number room k p s e)
 
 held : (xs : List Node) (t t' : Buffers) → Holds xs t t' → t' ≡ written 0 xs t
@@ -49,14 +46,14 @@ module _ (s : List ℕ) (t t' : Buffers) (r : Reading) (a : Answered s t t' r) w
         holds = record { starts = ap (λ (b : Buffers). b.starts) w; lengths = ap (λ (b : Buffers). b.lengths) w; parents = ap (λ (b : Buffers). b.parents) w; groups = ap (λ (b : Buffers). b.groups) w };
       }
 
-  refusing : (k p : ℕ) → r ≡ refused k p → Why (room_in t) s k p × (t' ≡ t)
+  refusing : (k p : ℕ) → r ≡ Refused k p → Why (room_in t) s k p × (t' ≡ t)
   refusing k p e =
       let o = sym a.answer ∙ e in
-      (theorems.refusals (room_in t) k p s o, a.stored ∙ ap (λ (x : Reading). written (told x).number (nodes_of s) t) e ∙ refusal-leaves (room_in t) k (record { 0 = p }) s (nodes_of s) t o)
+      (theorems.refusals (room_in t) k p s o, a.stored ∙ ap (λ (x : Reading). written (told x).number (nodes_of s) t) e ∙ refusal-leaves (room_in t) k p s (nodes_of s) t o)
 
   accepting : (x : Reading) → r ≡ x → (told x).number ≡ 0 → (xs : Items) × Accepts s t t' r xs
   accepting (Accepted n) e z = let x = theorems.accepted (room_in t) n s (sym a.answer ∙ e) in (x.0, fitting x.0 x.1)
-  accepting (Refused k p) e z = absurd (not_done (refusing k p.0 e).0 z)
+  accepting (Refused k p) e z = absurd (not_done (refusing k p e).0 z)
 
   read-rightly : ReadRightly s t t' r
   read-rightly = record {
@@ -80,10 +77,10 @@ answered s t t' r h = go (outcome (room_in t) s) refl
               ∙ sym (ap (λ (x : Reading). written (told x).number (nodes_of s) t) a.counts);
         }
     go (Refused k p) e =
-        let q = h.refused-there k p.0 (theorems.refusals (room_in t) k p.0 s e) in
+        let q = h.refused-there k p (theorems.refusals (room_in t) k p s e) in
         record {
           answer = q ∙ sym e;
-          stored = (h.refuses k p.0 q).1 ∙ sym (ap (λ (x : Reading). written (told x).number (nodes_of s) t) q ∙ refusal-leaves (room_in t) k p s (nodes_of s) t e);
+          stored = (h.refuses k p q).1 ∙ sym (ap (λ (x : Reading). written (told x).number (nodes_of s) t) q ∙ refusal-leaves (room_in t) k p s (nodes_of s) t e);
         }
 
 pub demand2 : Demand2 Answered

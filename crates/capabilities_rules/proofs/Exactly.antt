@@ -13,7 +13,7 @@ use Rattle.message_rules.specs.Answer.{wrong_grammar, no_node_room, too_deep}
 use Rattle.capabilities_rules.specs.Limits.{deepest}
 use Rattle.capabilities_rules.specs.Grammar.{Items, Text}
 use Rattle.capabilities_rules.specs.Machine.{kind_of, Phase, before, inside, after, act, to, depth, run_by, run, run_capped, capped, uncapped, moved}
-use Rattle.capabilities_rules.specs.Outcome.{judge, unless, fault, counted, refused, ending, outcome}
+use Rattle.capabilities_rules.specs.Outcome.{judge, unless, fault, counted, Refused, ending, outcome}
 use Rattle.capabilities_rules.specs.Prefixes.{Viable, ViableCapped, words_in, Clear, Why, too_long, cut_short, wrong_byte, ninth-open, no_node}
 use Rattle.capabilities_rules.specs.Kinds.{ByteKind}
 use Rattle.capabilities_rules.specs.Kinds.{Open, Close, Space, Letter, Zero, Other}
@@ -111,18 +111,18 @@ module _ (room : ℕ) (s : List ℕ) (p : ℕ) (clear : Clear room p s) (h : p �
       ap (run_by uncapped before) (take-suc s p 0 l) ∙ run-append uncapped end (get_or s p 0 ∷ []) (take p s) before at_p.1.ran
       ∙ ap (λ (x : Act). moved x (run (to end x) [])) (sym is)
 
-  stops : (k : ℕ) → p < length s → (a : Act) → a ≡ act end (kind_of (get_or s p 0)) → fault room (words_in false (take p s)) end a ≡ suc k → outcome room s ≡ refused (suc k) p
+  stops : (k : ℕ) → p < length s → (a : Act) → a ≡ act end (kind_of (get_or s p 0)) → fault room (words_in false (take p s)) end a ≡ suc k → outcome room s ≡ Refused (suc k) p
   stops k l a is e =
       reached ∙ judge_byte room p (words_in false (take p s)) end s p a l is
       ∙ ap (λ (i : ℕ). unless i p (judge room (p + 1) (counted (words_in false (take p s)) a) (to end a) (drop (suc p) s))) e
 
-  at_wrong : p < length s → (Viable (take (suc p) s) → ⊥) → outcome room s ≡ refused wrong_grammar p
+  at_wrong : p < length s → (Viable (take (suc p) s) → ⊥) → outcome room s ≡ Refused wrong_grammar p
   at_wrong l no_more = go (act end (kind_of (get_or s p 0))) refl
     where
-      on : (a : Act) → a ≡ act end (kind_of (get_or s p 0)) → Taken a → outcome room s ≡ refused wrong_grammar p
+      on : (a : Act) → a ≡ act end (kind_of (get_or s p 0)) → Taken a → outcome room s ≡ Refused wrong_grammar p
       on a is t = absurd (no_more (run-viable (take (suc p) s) (to end a) (run_byte uncapped l at_p.1.ran a is refl t)))
 
-      go : (a : Act) → a ≡ act end (kind_of (get_or s p 0)) → outcome room s ≡ refused wrong_grammar p
+      go : (a : Act) → a ≡ act end (kind_of (get_or s p 0)) → outcome room s ≡ Refused wrong_grammar p
       go Enter is = on Enter is tt
       go Leave is = on Leave is tt
       go Begin is = on Begin is tt
@@ -130,17 +130,17 @@ module _ (room : ℕ) (s : List ℕ) (p : ℕ) (clear : Clear room p s) (h : p �
       go Skip is = on Skip is tt
       go Refuse is = stops 12 l Refuse is refl
 
-  at_ninth : p < length s → get_or s p 0 ≡ 0x28 → Viable (take (suc p) s) → (ViableCapped (take (suc p) s) → ⊥) → outcome room s ≡ refused too_deep p
+  at_ninth : p < length s → get_or s p 0 ≡ 0x28 → Viable (take (suc p) s) → (ViableCapped (take (suc p) s) → ⊥) → outcome room s ≡ Refused too_deep p
   at_ninth l b more no_more = go (act end (kind_of (get_or s p 0))) refl
     where
-      on : (a : Act) → a ≡ act end (kind_of (get_or s p 0)) → capped end a ≡ a → Taken a → outcome room s ≡ refused too_deep p
+      on : (a : Act) → a ≡ act end (kind_of (get_or s p 0)) → capped end a ≡ a → Taken a → outcome room s ≡ Refused too_deep p
       on a is same t = absurd (no_more (capped-viable (take (suc p) s) (to end a) (run_byte capped l at_p.2 a is same t)))
 
-      enter : Enter ≡ act end (kind_of (get_or s p 0)) → (t : Bool) → leb deepest (depth end) ≡ t → outcome room s ≡ refused too_deep p
+      enter : Enter ≡ act end (kind_of (get_or s p 0)) → (t : Bool) → leb deepest (depth end) ≡ t → outcome room s ≡ Refused too_deep p
       enter is true f = stops 14 l Enter is (ap (λ (t : Bool). cond t too_deep 0) f)
       enter is false f = on Enter is (ap (λ (t : Bool). cond t Refuse Enter) f) tt
 
-      go : (a : Act) → a ≡ act end (kind_of (get_or s p 0)) → outcome room s ≡ refused too_deep p
+      go : (a : Act) → a ≡ act end (kind_of (get_or s p 0)) → outcome room s ≡ Refused too_deep p
       go Enter is = enter is (leb deepest (depth end)) refl
       go Leave is = on Leave is refl tt
       go Begin is = on Begin is refl tt
@@ -181,7 +181,7 @@ module _ (room : ℕ) (s : List ℕ) (p : ℕ) (clear : Clear room p s) (h : p �
   begun after Zero h e = absurd (omega arith)
   begun after Other h e = absurd h
 
-  at_full : p < length s → words_in false (take p s) ≡ room → words_in false (take (suc p) s) ≡ suc room → ViableCapped (take (suc p) s) → outcome room s ≡ refused no_node_room p
+  at_full : p < length s → words_in false (take p s) ≡ room → words_in false (take (suc p) s) ≡ suc room → ViableCapped (take (suc p) s) → outcome room s ≡ Refused no_node_room p
   unfolding run_by words_in
   at_full l full one v =
       let r = viable-capped (take (suc p) s) v in
@@ -194,11 +194,11 @@ module _ (room : ℕ) (s : List ℕ) (p : ℕ) (clear : Clear room p s) (h : p �
       stops 13 l Begin is (ap (λ (t : Bool). cond t no_node_room 0) (le-leb room (words_in false (take p s)) (omega arith)))
 
   -- at the end of a string that is no text
-  at_cut : p ≡ length s → ((xs : Items) → Text xs s → ⊥) → outcome room s ≡ refused wrong_grammar p
+  at_cut : p ≡ length s → ((xs : Items) → Text xs s → ⊥) → outcome room s ≡ Refused wrong_grammar p
   unfolding judge
   at_cut e no_text = reached ∙ ap (judge room p (words_in false (take p s)) end) (drop_of_length-le s {i = p} (omega arith)) ∙ unfinished end refl
     where
-      unfinished : (q : Phase) → end ≡ q → ending p (words_in false (take p s)) q ≡ refused wrong_grammar p
+      unfinished : (q : Phase) → end ≡ q → ending p (words_in false (take p s)) q ≡ Refused wrong_grammar p
       unfinished before f = refl
       unfinished (inside d m) f = refl
       unfinished after f =
@@ -206,7 +206,7 @@ module _ (room : ℕ) (s : List ℕ) (p : ℕ) (clear : Clear room p s) (h : p �
           let c = complete s whole in
           absurd (no_text c.0 c.1)
 
-pub exactly : (room : ℕ) (s : List ℕ) {k p : ℕ} → Why room s k p → outcome room s ≡ refused k p
+pub exactly : (room : ℕ) (s : List ℕ) {k p : ℕ} → Why room s k p → outcome room s ≡ Refused k p
 exactly room s (too_long h) = outcome-long room s h
 exactly room s (cut_short c no_text) = at_cut room s (length s) c (omega arith) refl no_text
 exactly room s (wrong_byte {p = p} c l v) = at_wrong room s p c (omega arith) l v

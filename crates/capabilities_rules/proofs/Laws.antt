@@ -12,14 +12,13 @@ use borrow.Author.Tests.{le-leb, lt-leb, leb-false}
 use Rattle.message_rules.specs.Answer.{wrong_grammar, no_node_room, too_deep}
 use Rattle.capabilities_rules.specs.Limits.{deepest}
 use Rattle.capabilities_rules.specs.Machine.{kind_of, is_letter, Phase, inside, act, act_of, to, leaving, pause_of}
-use Rattle.capabilities_rules.specs.Outcome.{judge, unless, fault, counted, refused, is_accepted}
+use Rattle.capabilities_rules.specs.Outcome.{judge, unless, fault, counted, Refused, is_accepted, Reading}
 use Rattle.capabilities_rules.specs.Nodes.{letters, opens, opened, nodes, node_at, begun, stack, top}
 use Rattle.capabilities_rules.specs.Kinds.{ByteKind}
 use Rattle.capabilities_rules.specs.Kinds.{Mode}
 use Rattle.capabilities_rules.specs.Kinds.{Free, Word}
 use Rattle.capabilities_rules.specs.Kinds.{Act}
 use Rattle.capabilities_rules.specs.Kinds.{Enter, Leave, Begin, Extend, Skip, Refuse}
-use Rattle.capabilities_rules.specs.declared.Reading.{Reading}
 
 -- the text from a place on: the byte there, and the text from the next place on
 pub from : (s : List ℕ) (at : ℕ) → at < length s → drop at s ≡ get_or s at 0 ∷ drop (at + 1) s
@@ -32,12 +31,12 @@ judge-at room at n p s a h e =
     ap (judge room at n p) (from s at h)
     ∙ ap (λ (x : Act). unless (fault room n p x) at (judge room (at + 1) (counted n x) (to p x) (drop (at + 1) s))) (sym e)
 
-pub judge-end : (room at n d : ℕ) (m : Mode) (s : List ℕ) → length s ≤ at → judge room at n (inside d m) (drop at s) ≡ refused wrong_grammar at
+pub judge-end : (room at n d : ℕ) (m : Mode) (s : List ℕ) → length s ≤ at → judge room at n (inside d m) (drop at s) ≡ Refused wrong_grammar at
 unfolding judge
 judge-end room at n d m s h = ap (judge room at n (inside d m)) (drop_of_length-le s h)
 
 module _ (room at n d : ℕ) (m : Mode) (s : List ℕ) (h : at < length s) where
-  pub stop_deep : Enter ≡ act_of m (kind_of (get_or s at 0)) → deepest ≤ suc d → judge room at n (inside d m) (drop at s) ≡ refused 15 at
+  pub stop_deep : Enter ≡ act_of m (kind_of (get_or s at 0)) → deepest ≤ suc d → judge room at n (inside d m) (drop at s) ≡ Refused 15 at
   stop_deep e deep =
       judge-at room at n (inside d m) s Enter h e
       ∙ ap (λ (t : Bool). unless (cond t too_deep 0) at (judge room (at + 1) n (inside (suc d) Free) (drop (at + 1) s))) (le-leb deepest (suc d) (omega arith))
@@ -51,7 +50,7 @@ module _ (room at n d : ℕ) (m : Mode) (s : List ℕ) (h : at < length s) where
   pub go_out : Leave ≡ act_of m (kind_of (get_or s at 0)) → judge room at n (inside d m) (drop at s) ≡ judge room (at + 1) n (leaving d) (drop (at + 1) s)
   go_out e = judge-at room at n (inside d m) s Leave h e
 
-  pub stop_full : Begin ≡ act_of m (kind_of (get_or s at 0)) → room ≤ n → judge room at n (inside d m) (drop at s) ≡ refused 14 at
+  pub stop_full : Begin ≡ act_of m (kind_of (get_or s at 0)) → room ≤ n → judge room at n (inside d m) (drop at s) ≡ Refused 14 at
   stop_full e full =
       judge-at room at n (inside d m) s Begin h e
       ∙ ap (λ (t : Bool). unless (cond t no_node_room 0) at (judge room (at + 1) (n + 1) (inside d Word) (drop (at + 1) s))) (le-leb room n full)
@@ -69,7 +68,7 @@ module _ (room at n d : ℕ) (m : Mode) (s : List ℕ) (h : at < length s) where
       → judge room at n (inside d m) (drop at s) ≡ judge room (at + 1) n (inside d (pause_of m)) (drop (at + 1) s)
   go_space e = judge-at room at n (inside d m) s Skip h e
 
-  pub stop_bad : Refuse ≡ act_of m (kind_of (get_or s at 0)) → judge room at n (inside d m) (drop at s) ≡ refused wrong_grammar at
+  pub stop_bad : Refuse ≡ act_of m (kind_of (get_or s at 0)) → judge room at n (inside d m) (drop at s) ≡ Refused wrong_grammar at
   stop_bad e = judge-at room at n (inside d m) s Refuse h e
 
 -- the letters that a list begins with: one more where a letter stands, none else

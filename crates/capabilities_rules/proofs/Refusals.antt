@@ -13,15 +13,13 @@ use Rattle.message_rules.specs.Answer.{wrong_grammar, no_node_room, too_deep, te
 use Rattle.message_rules.specs.Limits.{longest_text}
 use Rattle.capabilities_rules.specs.Limits.{deepest}
 use Rattle.capabilities_rules.specs.Machine.{kind_of, is_letter, Phase, before, inside, after, act, to, depth, leaving, run_by, run, run_capped, capped, uncapped, moved}
-use Rattle.capabilities_rules.specs.Outcome.{judge, unless, fault, counted, refused, ending, outcome}
+use Rattle.capabilities_rules.specs.Outcome.{judge, unless, fault, counted, Refused, ending, outcome, Reading, Accepted}
 use Rattle.capabilities_rules.specs.Prefixes.{nest, open_after, words_in, Clear, Why, too_long, cut_short, wrong_byte, ninth-open, no_node}
 use Rattle.capabilities_rules.specs.Kinds.{ByteKind}
 use Rattle.capabilities_rules.specs.Kinds.{Open, Close, Space, Letter, Zero, Other}
 use Rattle.capabilities_rules.specs.Kinds.{Free, Word, Gap}
 use Rattle.capabilities_rules.specs.Kinds.{Act}
 use Rattle.capabilities_rules.specs.Kinds.{Enter, Leave, Begin, Extend, Skip, Refuse}
-use Rattle.capabilities_rules.specs.declared.Reading.{Reading}
-use Rattle.capabilities_rules.specs.declared.Reading.TheVariants.{Accepted, Refused}
 use Rattle.capabilities_rules.proofs.Whole.{outcome-short, outcome-long}
 use Rattle.capabilities_rules.proofs.Bytes.{KindIs, kind-is}
 use Rattle.capabilities_rules.proofs.Walk.{Taken, moved_taken, walk_text}
@@ -167,10 +165,10 @@ module _ (room n : ℕ) (p : Phase) (b : ℕ) (a : Act) (e : a ≡ act p (kind_o
 -- what an answer to the bytes s from the position `at` on comes from
 abbrev Found : (room at n : ℕ) → Phase → List ℕ → Reading → Type 0
 Found room at n p s (Accepted k) = Unit {0}
-Found room at n p s (Refused k q) = (j : ℕ) × (q.0 ≡ at + j) × Stops room n p s k j
+Found room at n p s (Refused k q) = (j : ℕ) × (q ≡ at + j) × Stops room n p s k j
 
 -- the machine stops at once
-here : (room at n : ℕ) (p : Phase) (s : List ℕ) (k : ℕ) → Reason room n p s k 0 p → Found room at n p s (refused k at)
+here : (room at n : ℕ) (p : Phase) (s : List ℕ) (k : ℕ) → Reason room n p s k 0 p → Found room at n p s (Refused k at)
 unfolding run_by words_in open_after
 here room at n p s k why = (0, omega arith, record { end = p; ran = refl; passed = refl; made = λ l. omega arith; nested = refl; shallow = λ l. l; why = why })
 
@@ -281,20 +279,20 @@ stopped room s {j = j} short st =
         let roomy = clear.roomy in
         no_node clear l (omega arith) (omega arith) (capped-viable (take (suc j) s) q c)
 
-same-refusal : {k at k' at' : ℕ} → refused k at ≡ refused k' at' → (k ≡ k') × (at ≡ at')
+same-refusal : {k at k' at' : ℕ} → Refused k at ≡ Refused k' at' → (k ≡ k') × (at ≡ at')
 same-refusal e = (cc, ap placed e)
   where
     placed : Reading → ℕ
     placed (Accepted n) = 0
-    placed (Refused k p) = p.0
+    placed (Refused k p) = p
 
-pub refusals : (room k p : ℕ) (s : List ℕ) → outcome room s ≡ refused k p → Why room s k p
+pub refusals : (room k p : ℕ) (s : List ℕ) → outcome room s ≡ Refused k p → Why room s k p
 refusals room k p s e = go (leb (length s) longest_text) refl
   where
     go : (t : Bool) → leb (length s) longest_text ≡ t → Why room s k p
     go true f =
         let short : length s ≤ longest_text = leb-true (length s) longest_text f in
-        let x : Found room 0 0 before s (refused k p) = subst (Found room 0 0 before s) (sym (outcome-short room s short) ∙ e) (found room s 0 0 before) in
+        let x : Found room 0 0 before s (Refused k p) = subst (Found room 0 0 before s) (sym (outcome-short room s short) ∙ e) (found room s 0 0 before) in
         subst (Why room s k) (omega (arith, x.1)) (stopped room s short x.2)
     go false f =
         let long : longest_text < length s = leb-false (length s) longest_text f in

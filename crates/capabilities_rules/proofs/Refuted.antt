@@ -10,13 +10,11 @@ use lib.ListN.{length, get_or, replicate, length-append, length-replicate}
 use borrow.Author.Tests.{le-leb}
 use Rattle.capabilities_rules.specs.Grammar.{none, word, ListAt, ends, spaced, worded, last, no_zero, text, Fits, Node}
 use Rattle.capabilities_rules.specs.Machine.{before, kind_of}
-use Rattle.capabilities_rules.specs.Outcome.{told, refused, judge, outcome, is_accepted}
+use Rattle.capabilities_rules.specs.Outcome.{told, Refused, judge, outcome, is_accepted, Reading, Accepted}
 use Rattle.capabilities_rules.specs.Nodes.{letters, opens, nodes, nodes_of}
 use Rattle.capabilities_rules.specs.Buffers.{Buffers, buffers, buffer_room, written}
 use Rattle.capabilities_rules.specs.Prefixes.{Why, too_long, cut_short, wrong_byte, ninth-open, no_node}
 use Rattle.capabilities_rules.specs.Demand2.{Promise, Demand2}
-use Rattle.capabilities_rules.specs.declared.Reading.{Reading}
-use Rattle.capabilities_rules.specs.declared.Reading.TheVariants.{Accepted, Refused}
 use Rattle.capabilities_rules.proofs.Theorems.{theorems}
 use Rattle.capabilities_rules.proofs.Walk.{walk_text}
 
@@ -27,7 +25,7 @@ bare = buffers [] [] [] []
 -- ---- a reader that refuses everything
 
 abbrev refuses_all : Promise
-refuses_all s t t' r = (r ≡ refused 13 0) × (t' ≡ t)
+refuses_all s t t' r = (r ≡ Refused 13 0) × (t' ≡ t)
 
 -- "()" fits
 empty_fits : Fits 0 (0x28 ∷ 0x29 ∷ []) none
@@ -35,14 +33,14 @@ empty_fits = record { grammar = text ends no_zero; deep = omega arith; roomy = o
 
 pub no_refuser : Demand2 refuses_all → ⊥
 no_refuser h =
-    let a = ((h.rightly (0x28 ∷ 0x29 ∷ []) bare bare (refused 13 0) (refl, refl)).accepts none empty_fits).counts in
+    let a = ((h.rightly (0x28 ∷ 0x29 ∷ []) bare bare (Refused 13 0) (refl, refl)).accepts none empty_fits).counts in
     let z : ◌≡◌ {A = ℕ} 0 1 = cc in
     omega arith
 
 -- ---- a reader that takes one byte too many
 
 abbrev takes_more : Promise
-takes_more s t t' r = (r ≡ cond (leb (length s) 4097) (judge (buffer_room t) 0 0 before s) (refused 11 0)) × (t' ≡ written (told r).number (nodes_of s) t)
+takes_more s t t' r = (r ≡ cond (leb (length s) 4097) (judge (buffer_room t) 0 0 before s) (Refused 11 0)) × (t' ≡ written (told r).number (nodes_of s) t)
 
 -- "(", n spaces, ")"
 abbrev spacious : ℕ → List ℕ
@@ -63,7 +61,7 @@ no_longer_by : (n : ℕ) → n ≡ 4095 → Demand2 takes_more → ⊥
 no_longer_by n is h =
     let long = spacious_length n in
     let r : Reading = judge 0 0 0 before (spacious n) in
-    let kept = h.rightly (spacious n) bare (written (told r).number (nodes_of (spacious n)) bare) r (ap (λ (b : Bool). cond b r (refused 11 0)) (sym (le-leb (length (spacious n)) 4097 (omega arith))), refl) in
+    let kept = h.rightly (spacious n) bare (written (told r).number (nodes_of (spacious n)) bare) r (ap (λ (b : Bool). cond b r (Refused 11 0)) (sym (le-leb (length (spacious n)) 4097 (omega arith))), refl) in
     let a = kept.refused-there 11 0 (too_long (omega arith)) in
     let b = spacious_accepted 0 n in
     let z : ◌≡◌ {A = ℕ} 0 1 = cc in
@@ -94,7 +92,7 @@ no_word (no_node _ h _ _ _) e = omega arith
 
 pub no_rotator : Demand2 rotates → ⊥
 unfolding outcome judge
-no_rotator h = no_word ((h.rightly [] bare bare (refused 14 0) (refl, refl)).refuses 14 0 refl).0 refl
+no_rotator h = no_word ((h.rightly [] bare bare (Refused 14 0) (refl, refl)).refuses 14 0 refl).0 refl
 
 -- ---- a reader that gives 13 for the ninth "("
 
@@ -119,7 +117,7 @@ pub no_levelling : Demand2 levels15 → ⊥
 unfolding outcome judge kind_of
 no_levelling h =
     let s : List ℕ = 0x28 ∷ descent 8 in
-    let a = (h.rightly s eight eight (refused 13 16) (refl, refl)).refused-there 15 16 (theorems.refusals 8 15 16 s refl) in
+    let a = (h.rightly s eight eight (Refused 13 16) (refl, refl)).refused-there 15 16 (theorems.refusals 8 15 16 s refl) in
     let z : ◌≡◌ {A = ℕ} 13 15 = ap (λ (r : Reading). (told r).number) a in
     omega arith
 
@@ -159,7 +157,7 @@ gap-fits = record { grammar = text (spaced ends) no_zero; deep = omega arith; ro
 pub no_joining : Demand2 joins → ⊥
 unfolding outcome judge kind_of
 no_joining h =
-    let a = ((h.rightly (0x28 ∷ 0x20 ∷ 0x29 ∷ []) bare bare (refused 14 1) (refl, refl)).accepts none gap-fits).counts in
+    let a = ((h.rightly (0x28 ∷ 0x20 ∷ 0x29 ∷ []) bare bare (Refused 14 1) (refl, refl)).accepts none gap-fits).counts in
     let z : ◌≡◌ {A = ℕ} 14 0 = ap (λ (r : Reading). (told r).number) a in
     omega arith
 
@@ -210,6 +208,6 @@ spills s t t' r = (r ≡ outcome (buffer_room t) s) × (t' ≡ written 0 (nodes_
 pub no_spilling : Demand2 spills → ⊥
 unfolding outcome judge kind_of letters opens nodes nodes_of
 no_spilling h =
-    let a = ((h.rightly (0x28 ∷ 0x61 ∷ []) single (buffers (1 ∷ []) (1 ∷ []) (65535 ∷ []) (0 ∷ [])) (refused 13 2) (refl, refl)).refuses 13 2 refl).1 in
+    let a = ((h.rightly (0x28 ∷ 0x61 ∷ []) single (buffers (1 ∷ []) (1 ∷ []) (65535 ∷ []) (0 ∷ [])) (Refused 13 2) (refl, refl)).refuses 13 2 refl).1 in
     let z : ◌≡◌ {A = ℕ} 1 0 = ap (λ (t : Buffers). get_or t.starts 0 0) a in
     omega arith

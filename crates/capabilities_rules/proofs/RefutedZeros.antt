@@ -11,7 +11,7 @@ use lib.Dec.{leb, eqb}
 use lib.ListN.{length, replicate, length-append, length-replicate}
 use Rattle.capabilities_rules.specs.Grammar.{none, ends, Zeros, no_zero, one-zero, Items, Text, text, Node}
 use Rattle.capabilities_rules.specs.Machine.{before, inside, after, run_by, kind_of}
-use Rattle.capabilities_rules.specs.Outcome.{told, refused, judge, outcome}
+use Rattle.capabilities_rules.specs.Outcome.{told, Refused, judge, outcome, Reading, Accepted}
 use Rattle.capabilities_rules.specs.Nodes.{nodes, nodes_of}
 use Rattle.capabilities_rules.specs.Buffers.{buffers, buffer_room, written}
 use Rattle.capabilities_rules.specs.Prefixes.{nest, words_in}
@@ -19,8 +19,6 @@ use Rattle.capabilities_rules.specs.Words.{last_of}
 use Rattle.capabilities_rules.specs.Demand2.{Promise, Demand2}
 use Rattle.capabilities_rules.specs.Zeros.{ReadsZeros}
 use Rattle.capabilities_rules.specs.Kinds.{Free}
-use Rattle.capabilities_rules.specs.declared.Reading.{Reading}
-use Rattle.capabilities_rules.specs.declared.Reading.TheVariants.{Accepted, Refused}
 use Rattle.capabilities_rules.proofs.Theorems.{theorems}
 use Rattle.capabilities_rules.proofs.Walk.{walk_text}
 use Rattle.capabilities_rules.proofs.Zeros.{reads_zeros}
@@ -38,7 +36,7 @@ abbrev empty : List ℕ
 empty = 0x28 ∷ 0x29 ∷ []
 
 -- what is accepted is not refused with 13
-not_13 : {n p : ℕ} → Accepted n ≡ refused 13 p → ⊥
+not_13 : {n p : ℕ} → Accepted n ≡ Refused 13 p → ⊥
 not_13 e = let z : ◌≡◌ {A = ℕ} 0 13 = ap (λ (r : Reading). (told r).number) e in omega arith
 
 -- ---- document 01's reader, which takes no zero: to it 00 is as 01
@@ -52,7 +50,7 @@ takes_none = reading (map hard)
 pub no_old_reader : ReadsZeros takes_none → ⊥
 unfolding outcome judge kind_of nodes nodes_of
 no_old_reader h =
-    let a = (h.behind empty (0 ∷ []) bare bare bare (Accepted 0) (refused 13 2) (one-zero no_zero) (refl, refl) (refl, refl)).accepts refl (omega arith) in
+    let a = (h.behind empty (0 ∷ []) bare bare bare (Accepted 0) (Refused 13 2) (one-zero no_zero) (refl, refl) (refl, refl)).accepts refl (omega arith) in
     omega arith
 
 -- ---- a reader that takes one zero and no more: to it 00 behind the first is as 01
@@ -67,7 +65,7 @@ takes_one = reading first_only
 pub no_single_zero : ReadsZeros takes_one → ⊥
 unfolding outcome judge kind_of nodes nodes_of
 no_single_zero h =
-    let a = (h.behind empty (0 ∷ 0 ∷ []) bare bare bare (Accepted 0) (refused 13 3) (one-zero (one-zero no_zero)) (refl, refl) (refl, refl)).accepts refl (omega arith) in
+    let a = (h.behind empty (0 ∷ 0 ∷ []) bare bare bare (Accepted 0) (Refused 13 3) (one-zero (one-zero no_zero)) (refl, refl) (refl, refl)).accepts refl (omega arith) in
     omega arith
 
 -- ---- a reader that takes a zero inside a group, for a space
@@ -103,7 +101,7 @@ unled (b ∷ s) = cond (eqb b 0) (unled s) (b ∷ s)
 
 abbrev passes_over : Promise
 passes_over s t t' r =
-    (r ≡ cond (leb (length s) 4096) (judge (buffer_room t) (led s) 0 before (unled s)) (refused 11 0)) × (t' ≡ written (told r).number (nodes (led s) 0 [] before (unled s)) t)
+    (r ≡ cond (leb (length s) 4096) (judge (buffer_room t) (led s) 0 before (unled s)) (Refused 11 0)) × (t' ≡ written (told r).number (nodes (led s) 0 [] before (unled s)) t)
 
 no_bytes : (xs : Items) → Text xs [] → ⊥
 unfolding run_by
@@ -123,7 +121,7 @@ up_to_zero [] = []
 up_to_zero (b ∷ s) = cond (eqb b 0) [] (b ∷ up_to_zero s)
 
 abbrev stops_at_zero : Promise
-stops_at_zero s t t' r = (r ≡ cond (leb (length s) 4096) (judge (buffer_room t) 0 0 before (up_to_zero s)) (refused 11 0)) × (t' ≡ written (told r).number (nodes_of (up_to_zero s)) t)
+stops_at_zero s t t' r = (r ≡ cond (leb (length s) 4096) (judge (buffer_room t) 0 0 before (up_to_zero s)) (Refused 11 0)) × (t' ≡ written (told r).number (nodes_of (up_to_zero s)) t)
 
 -- "()" 00 "a"
 pub no_letter_after : ReadsZeros stops_at_zero → ⊥
@@ -173,7 +171,7 @@ no_uncounted = no_uncounted_by 4095 refl
 -- ---- a reader that makes a node of a zero at the end
 
 abbrev one_more : (room : ℕ) → List ℕ → Reading → Reading
-one_more room s (Accepted n) = cond (eqb (last_of s) 0) (cond (leb room n) (refused 14 (length s - 1)) (Accepted (n + 1))) (Accepted n)
+one_more room s (Accepted n) = cond (eqb (last_of s) 0) (cond (leb room n) (Refused 14 (length s - 1)) (Accepted (n + 1))) (Accepted n)
 one_more room s (Refused k p) = Refused k p
 
 abbrev zero_node : List ℕ → List Node
@@ -194,20 +192,20 @@ no_node_of_zero h =
 -- 13 at the first zero while d brackets are open, else what the rest gives
 abbrev sought : (at d : ℕ) → List ℕ → Reading → Reading
 sought at d [] rest = rest
-sought at d (b ∷ s) rest = cond (leb d 0) rest (cond (eqb b 0) (refused 13 at) (sought (at + 1) (nest (kind_of b) d) s rest))
+sought at d (b ∷ s) rest = cond (leb d 0) rest (cond (eqb b 0) (Refused 13 at) (sought (at + 1) (nest (kind_of b) d) s rest))
 
 abbrev sought_in : List ℕ → Reading → Reading
 sought_in [] rest = rest
 sought_in (b ∷ s) rest = sought 1 (nest (kind_of b) 0) s rest
 
 abbrev seeks_zeros : Promise
-seeks_zeros s t t' r = (r ≡ cond (leb (length s) 4096) (sought_in (stripped s) (outcome (buffer_room t) s)) (refused 11 0)) × (t' ≡ written (told r).number (nodes_of s) t)
+seeks_zeros s t t' r = (r ≡ cond (leb (length s) 4096) (sought_in (stripped s) (outcome (buffer_room t) s)) (Refused 11 0)) × (t' ≡ written (told r).number (nodes_of s) t)
 
 -- "((" 00 ")"
 pub no_later_zero : ReadsZeros seeks_zeros → ⊥
 unfolding outcome judge kind_of nodes nodes_of stripped
 no_later_zero h =
     let s : List ℕ = 0x28 ∷ 0x28 ∷ 0 ∷ 0x29 ∷ [] in
-    let a = h.earlier s bare bare (refused 13 2) 13 1 2 (refl, refl) (theorems.refusals 0 13 1 s refl) (omega arith) (omega arith) refl in
+    let a = h.earlier s bare bare (Refused 13 2) 13 1 2 (refl, refl) (theorems.refusals 0 13 1 s refl) (omega arith) (omega arith) refl in
     let z : ◌≡◌ {A = ℕ} 2 1 = ap (λ (r : Reading). (told r).place) a in
     omega arith

@@ -11,15 +11,13 @@ use Rattle.message_rules.specs.Answer.{text_too_long, wrong_grammar}
 use Rattle.message_rules.specs.Limits.{longest_text}
 use Rattle.capabilities_rules.specs.Limits.{no_parent}
 use Rattle.capabilities_rules.specs.Machine.{kind_of, Phase, before, inside, after, act, to}
-use Rattle.capabilities_rules.specs.Outcome.{judge, unless, fault, counted, refused, ending, outcome}
+use Rattle.capabilities_rules.specs.Outcome.{judge, unless, fault, counted, Refused, ending, outcome, Reading, Accepted}
 use Rattle.capabilities_rules.specs.Nodes.{nodes, node_at, begun, stack, top, latest}
 use Rattle.capabilities_rules.specs.Grammar.{Node}
 use Rattle.capabilities_rules.specs.Kinds.{Open, Close, Space, Letter, Zero, Other}
 use Rattle.capabilities_rules.specs.Kinds.{Free}
 use Rattle.capabilities_rules.specs.Kinds.{Act}
 use Rattle.capabilities_rules.specs.Kinds.{Enter, Leave, Begin, Extend, Skip, Refuse}
-use Rattle.capabilities_rules.specs.declared.Reading.{Reading}
-use Rattle.capabilities_rules.specs.declared.Reading.TheVariants.{Accepted}
 use Rattle.capabilities_rules.specs.Kinds.{ByteKind}
 use Rattle.capabilities_rules.proofs.Bytes.{KindIs, kind-is}
 use Rattle.capabilities_rules.proofs.Laws.{judge-at, nodes-at, not_full}
@@ -65,19 +63,19 @@ other-refused (is_zero e) ne = absurd (ne e)
 other-refused is-other ne = refl
 
 module _ (room : ℕ) (s : List ℕ) where
-  pub outcome-long : longest_text < length s → outcome room s ≡ refused text_too_long 0
+  pub outcome-long : longest_text < length s → outcome room s ≡ Refused text_too_long 0
   unfolding outcome
-  outcome-long h = ap (λ (t : Bool). cond t (judge room 0 0 before s) (refused text_too_long 0)) (lt-leb (length s) longest_text h)
+  outcome-long h = ap (λ (t : Bool). cond t (judge room 0 0 before s) (Refused text_too_long 0)) (lt-leb (length s) longest_text h)
 
   pub outcome-short : length s ≤ longest_text → outcome room s ≡ judge room 0 0 before s
   unfolding outcome
-  outcome-short h = ap (λ (t : Bool). cond t (judge room 0 0 before s) (refused text_too_long 0)) (le-leb (length s) longest_text h)
+  outcome-short h = ap (λ (t : Bool). cond t (judge room 0 0 before s) (Refused text_too_long 0)) (le-leb (length s) longest_text h)
 
-  pub judge-none : length s ≡ 0 → judge room 0 0 before s ≡ refused wrong_grammar 0
+  pub judge-none : length s ≡ 0 → judge room 0 0 before s ≡ Refused wrong_grammar 0
   unfolding judge
   judge-none h = ap (judge room 0 0 before) (drop_of_length-le s {i = 0} (omega arith))
 
-  pub judge_shut : 0 < length s → (get_or s 0 0 ≡ 0x28 → ⊥) → judge room 0 0 before s ≡ refused wrong_grammar 0
+  pub judge_shut : 0 < length s → (get_or s 0 0 ≡ 0x28 → ⊥) → judge room 0 0 before s ≡ Refused wrong_grammar 0
   judge_shut h ne = judge-at room 0 0 before s Refuse h (no_opening (get_or s 0 0) ne)
 
   pub judge_open : 0 < length s → get_or s 0 0 ≡ 0x28 → judge room 0 0 before s ≡ judge room 1 0 (inside 0 Free) (drop 1 s)
@@ -87,7 +85,7 @@ module _ (room : ℕ) (s : List ℕ) where
   nodes_open h e = nodes-at 0 0 [] before s Enter h (opening (get_or s 0 0) e)
 
   -- past the outer group only 00 may follow
-  pub judge-more : (at n : ℕ) → at < length s → (get_or s at 0 ≡ 0 → ⊥) → judge room at n after (drop at s) ≡ refused wrong_grammar at
+  pub judge-more : (at n : ℕ) → at < length s → (get_or s at 0 ≡ 0 → ⊥) → judge room at n after (drop at s) ≡ Refused wrong_grammar at
   judge-more at n h ne = judge-at room at n after s Refuse h (other-refused (behind (get_or s at 0)) ne)
 
   pub judge-zero : (at n : ℕ) → at < length s → get_or s at 0 ≡ 0 → judge room at n after (drop at s) ≡ judge room (at + 1) n after (drop (at + 1) s)
@@ -141,7 +139,7 @@ pub record Whole (room n : ℕ) (s : List ℕ) : Type 0 where
   pub opens : get_or s 0 0 ≡ 0x28
   pub inner : judge room 1 0 (inside 0 Free) (drop 1 s) ≡ Accepted n
 
-not_refused : {A : Type 0} (k at n : ℕ) (r : Reading) → r ≡ refused k at → r ≡ Accepted n → A
+not_refused : {A : Type 0} (k at n : ℕ) (r : Reading) → r ≡ Refused k at → r ≡ Accepted n → A
 not_refused k at n r e f = let z : ◌≡◌ {A = ℕ} 0 1 = cc in absurd (omega arith)
 
 pub accepted : (room n : ℕ) (s : List ℕ) → outcome room s ≡ Accepted n → Whole room n s

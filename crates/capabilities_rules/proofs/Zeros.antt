@@ -12,7 +12,7 @@ use lib.Seq.{take-suc}
 use borrow.Author.Tests.{leb-true, leb-false}
 use Rattle.capabilities_rules.specs.Grammar.{Items, Zeros, no_zero, one-zero, Text, text, Node}
 use Rattle.capabilities_rules.specs.Machine.{kind_of, Phase, before, inside, after, act, to, run_by, run, uncapped}
-use Rattle.capabilities_rules.specs.Outcome.{told, judge, unless, fault, counted, refused, ending, outcome}
+use Rattle.capabilities_rules.specs.Outcome.{told, judge, unless, fault, counted, Refused, ending, outcome, Reading, Accepted}
 use Rattle.capabilities_rules.specs.Nodes.{nodes_of}
 use Rattle.capabilities_rules.specs.Buffers.{Buffers, written, Answered}
 use Rattle.capabilities_rules.specs.Prefixes.{Viable, wrong_byte}
@@ -20,8 +20,6 @@ use Rattle.capabilities_rules.specs.Demand2.{room_in, Promise, Demand2}
 use Rattle.capabilities_rules.specs.Zeros.{ReadAlike, ReadsZeros}
 use Rattle.capabilities_rules.specs.Kinds.{Free, Word, Gap}
 use Rattle.capabilities_rules.specs.Kinds.{Act}
-use Rattle.capabilities_rules.specs.declared.Reading.{Reading}
-use Rattle.capabilities_rules.specs.declared.Reading.TheVariants.{Accepted, Refused}
 use Rattle.capabilities_rules.proofs.Walk.{walk_text}
 use Rattle.capabilities_rules.proofs.Parse.{none-some, passes_zero, complete}
 use Rattle.capabilities_rules.proofs.Prefixes.{run-append, run_prefix, viable-run}
@@ -79,9 +77,9 @@ module _ (s z : List ℕ) (t t' t'' : Buffers) (r q : Reading) (sz : Zeros z) (a
       let same : q ≡ r = e ∙ sym a.answer in
       (same, b.stored ∙ written-zeros (room_in t) s sz h t q (sym e) ∙ ap (λ (x : Reading). written (told x).number (nodes_of s) t) same ∙ sym a.stored)
 
-  long : 4096 < length (s ++ z) → (q ≡ refused 11 0) × (t'' ≡ t)
+  long : 4096 < length (s ++ z) → (q ≡ Refused 11 0) × (t'' ≡ t)
   long h =
-      let e : q ≡ refused 11 0 = b.answer ∙ outcome-long (room_in t) (s ++ z) h in
+      let e : q ≡ Refused 11 0 = b.answer ∙ outcome-long (room_in t) (s ++ z) h in
       (e, b.stored ∙ ap (λ (x : Reading). written (told x).number (nodes_of (s ++ z)) t) e)
 
   within : (told q).number ≡ 0 → length (s ++ z) ≤ 4096

@@ -3,9 +3,8 @@ use Rattle.std.specs.Prelude.{ℕ, zero, suc, min, ◌≡◌, List, map, length}
 use Rattle.buffers.specs.Buffers.{over}
 use Rattle.capabilities_rules.specs.Limits.{most_nodes}
 use Rattle.capabilities_rules.specs.Grammar.{Node}
-use Rattle.capabilities_rules.specs.Outcome.{told, outcome}
+use Rattle.capabilities_rules.specs.Outcome.{told, outcome, Reading}
 use Rattle.capabilities_rules.specs.Nodes.{nodes_of}
-use Rattle.capabilities_rules.specs.declared.Reading.{Reading}
 
 -- the room for nodes, from the lengths of the four buffers
 abbrev pub room_of : ℕ → ℕ → ℕ → ℕ → ℕ

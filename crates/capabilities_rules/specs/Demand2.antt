@@ -3,12 +3,10 @@
 -- Said of any reader's promise, so that wrong readers can be refuted. Its numbers are the papers' own.
 use Rattle.std.specs.Prelude.{ℕ, min, ◌≡◌, List, map, length}
 use Rattle.capabilities_rules.specs.Grammar.{Items, Text, Fits, Node, size, nodes_from}
-use Rattle.capabilities_rules.specs.Outcome.{told, refused}
+use Rattle.capabilities_rules.specs.Outcome.{told, Refused, Reading, Accepted}
 use Rattle.buffers.specs.Buffers.{over}
 use Rattle.capabilities_rules.specs.Buffers.{Buffers}
 use Rattle.capabilities_rules.specs.Prefixes.{Why}
-use Rattle.capabilities_rules.specs.declared.Reading.{Reading}
-use Rattle.capabilities_rules.specs.declared.Reading.TheVariants.{Accepted}
 
 -- "Node room is the shortest of the four lent buffers, at most 512"
 abbrev pub room_in : Buffers → ℕ
@@ -35,9 +33,9 @@ pub record ReadRightly (s : List ℕ) (t t' : Buffers) (r : Reading) : Type 0 wh
   -- .. and what is accepted fits
   pub accepted : (told r).number ≡ 0 → (xs : Items) × Accepts s t t' r xs
   -- a refusal has a reason, "node buffers unchanged" ..
-  pub refuses : (k p : ℕ) → r ≡ refused k p → Why (room_in t) s k p × (t' ≡ t)
+  pub refuses : (k p : ℕ) → r ≡ Refused k p → Why (room_in t) s k p × (t' ≡ t)
   -- .. and where there is a reason, it is given
-  pub refused-there : (k p : ℕ) → Why (room_in t) s k p → r ≡ refused k p
+  pub refused-there : (k p : ℕ) → Why (room_in t) s k p → r ≡ Refused k p
 
 -- what a reader of the string s with the buffers t promises of the buffers t' afterwards and of its answer r
 abbrev pub Promise : Type 1

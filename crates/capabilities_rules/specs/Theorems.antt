@@ -3,11 +3,10 @@ use Rattle.std.specs.Prelude.{ℕ, ◌≡◌, false, List, ◌++◌}
 use Rattle.std.proofs.Math.Option.{some}
 use Rattle.capabilities_rules.specs.Grammar.{Items, Text, Fits, size, nodes_from}
 use Rattle.capabilities_rules.specs.Machine.{Phase, before, run, run_capped}
-use Rattle.capabilities_rules.specs.Outcome.{refused, outcome}
+use Rattle.capabilities_rules.specs.Outcome.{Refused, outcome, Accepted}
 use Rattle.capabilities_rules.specs.Nodes.{nodes_of}
 use Rattle.capabilities_rules.specs.Words.{LongestRun, EachWord}
 use Rattle.capabilities_rules.specs.Prefixes.{words_in, Viable, ViableCapped, Why}
-use Rattle.capabilities_rules.specs.declared.Reading.TheVariants.{Accepted}
 
 pub record Theorems : Type 0 where
   -- a string of the grammar within the limits is accepted, with one node a word ..
@@ -23,9 +22,9 @@ pub record Theorems : Type 0 where
   pub longest : (s : List ℕ) (xs : Items) → Text xs s → EachWord (LongestRun s) xs
   pub runs : (s : List ℕ) (xs : Items) → Text xs s → words_in false s ≡ size xs
   -- a refusal has its number and its position by the rule, and nothing is refused before it ..
-  pub refusals : (room k p : ℕ) (s : List ℕ) → outcome room s ≡ refused k p → Why room s k p
+  pub refusals : (room k p : ℕ) (s : List ℕ) → outcome room s ≡ Refused k p → Why room s k p
   -- .. and wherever the rule says so, it is given
-  pub exactly : (room k p : ℕ) (s : List ℕ) → Why room s k p → outcome room s ≡ refused k p
+  pub exactly : (room k p : ℕ) (s : List ℕ) → Why room s k p → outcome room s ≡ Refused k p
   -- the bytes that could begin a text are those that the machine passes ..
   pub viable-passes : (s : List ℕ) → Viable s → (p : Phase) × (run before s ≡ some p)
   pub passes-viable : (s : List ℕ) (p : Phase) → run before s ≡ some p → Viable s

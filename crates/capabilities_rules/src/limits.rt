@@ -7,4 +7,5 @@ pub const DEEPEST: usize = 8;
 pub const MOST_NODES: usize = 512;
 
 // The parent of a node in the outer group.
+// A number, not an Option: the buffers that C lends hold it.
 pub const NO_PARENT: u16 = 65535;

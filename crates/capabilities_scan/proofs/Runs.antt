@@ -8,9 +8,9 @@ use lib.Dec.{eqb, leb}
 use lib.ListN.{length, get_or, drop, drop_of_length-le, get_or-eq_default}
 use borrow.Author.Tests.{leb-true, leb-false, eqb-true, eqb-false}
 use Rattle.capabilities_rules.specs.Machine.{kind_of, is_letter, inside, after, act_of, pause_of}
+use Rattle.std.proofs.lemmas.Grind.{get_or_default_zero}
 use Rattle.message_rules.specs.Answer.{wrong_grammar}
-use Rattle.capabilities_rules.specs.Outcome.{judge, refused}
-use Rattle.capabilities_rules.specs.declared.Reading.TheVariants.{Accepted}
+use Rattle.capabilities_rules.specs.Outcome.{judge, Refused, Accepted}
 use Rattle.capabilities_rules.specs.Grammar.{IsLetter}
 use Rattle.capabilities_rules.specs.Nodes.{letters, nodes}
 use Rattle.capabilities_rules.specs.Kinds.{ByteKind}
@@ -208,6 +208,15 @@ module _ (d : ℕ) (s : List ℕ) where
 
 -- ---- a word, its spaces, and what follows
 
+-- the byte b stands at `at`
+pub record Stands (s : List ℕ) (at b : ℕ) : Type 0 where
+  pub inside : at < length s
+  pub is : b ≡ get_or s at 0
+
+-- .. as the library's `get` says it
+pub stands : (s : List ℕ) (at b : ℕ) → at < length s → b ≡ get_or s at b → Stands s at b
+stands s at b h e = record { inside = h; is = e ∙ get_or_default_zero s at b h }
+
 -- a word begins at `at` and ends at `end`, and its spaces end at `next`
 pub record Passed (s : List ℕ) (at end next : ℕ) : Type 0 where
   pub inside : at < length s
@@ -300,7 +309,7 @@ module _ (room n : ℕ) (s : List ℕ) where
     passed-zeros = zeros_pass (zeros (drop at s)) at refl ∙ sym (ap (λ (i : ℕ). judge room i n after (drop i s)) e)
 
     -- the first byte that is no zero is refused ..
-    pub other-behind : end < length s → judge room at n after (drop at s) ≡ refused wrong_grammar end
+    pub other-behind : end < length s → judge room at n after (drop at s) ≡ Refused wrong_grammar end
     other-behind h =
         let over = run-over zeros (λ b. eqb b 0) (counts-leading 0) s (zeros (drop at s)) at refl in
         let none : zeros (drop end s) ≡ 0 = subst (λ (i : ℕ). zeros (drop i s) ≡ 0) (sym e) over in

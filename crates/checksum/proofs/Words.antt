@@ -5,10 +5,14 @@ use Prim.Native.Nat.{ℕ, zero, suc, ◌+◌, ◌*◌, ◌/◌, ◌%◌, ◌^◌
 use mathlib.Core.List.{List, [], ◌∷◌, ◌++◌}
 use native.Mathlib.Omega.{arith}
 use lib.ListN.{length, get_or, take, drop, length-drop}
-use lib.Seq.{drop-cons, drop-drop, length-take-le, take-add}
+use lib.Seq.{drop-drop, length-take-le, take-add}
 use lib.Arith.{digits_lt, digits_div, digits_mod}
 use lib.Pow.{pow-add, shl_exact, shr-shr}
 use lib.Bits.{bit_or, bit_xor, or_shifted_r, xor_comm, xor_mod, xor_shr, xor_zero_l, xor_zero_r}
+use Rattle.std.specs.Int.{from_le_bytes}
+use Rattle.std.specs.List.{fold}
+use Rattle.std.specs.Simd.{first_chunks}
+use Rattle.std.proofs.Common.{w64}
 use Rattle.checksum.specs.Bytes.{Bytes, none, more}
 use Rattle.checksum.specs.Words.{packed, folded}
 use Rattle.checksum.specs.Xor.{xor_all}
@@ -33,11 +37,6 @@ unfolding packed
 packed-append [] t = omega arith
 packed-append (b ∷ s) t = omega (arith, packed-append s t, ap (λ (k : ℕ). packed t * k) (eight_more (length s)))
 
--- one byte is its own number
-pub packed-one : (s : List ℕ) (at : ℕ) → at < length s → packed (take 1 (drop at s)) ≡ get_or s at 0
-unfolding packed
-packed-one s at h = ap (λ (l : List ℕ). packed (take 1 l)) (drop-cons s at 0 h) ∙ omega arith
-
 -- n bytes, and n behind them shifted past them, are twice as many: up to 4 and 4, which fill 64 bits
 pub packed_doubled : (n x y : ℕ) (s : List ℕ) (at : ℕ) → ((i : ℕ) → get_or s i 0 < 256) → at + (n + n) ≤ length s → n ≤ 4
     → x ≡ packed (take n (drop at s)) → y ≡ packed (take n (drop (at + n) s))
@@ -57,6 +56,12 @@ packed_doubled n x y s at hb h few px py =
     ∙ ap (λ (k : ℕ). packed high * 2 ^ (8 * k) + packed low) (sym long-low)
     ∙ sym (packed-append low high)
     ∙ ap packed (sym (take-add n n t))
+
+-- eight bytes are the number that `from_le_bytes` makes of them
+packed-eight : (w : List ℕ) → length w ≡ 8 → from_le_bytes w64 w ≡ packed w
+unfolding packed
+packed-eight (a ∷ b ∷ c ∷ d ∷ e ∷ f ∷ g ∷ h ∷ []) l = omega arith
+packed-eight w l = absurd (omega arith)
 
 -- ---- the bytes of a number taken together
 
@@ -132,3 +137,27 @@ folded-next n seed acc i s hb h taken =
     ∙ ap (λ (x : ℕ). xor_all x g) (xor_zero_r sum)
     ∙ sym (xor_all-append seed (take i s) g)
     ∙ ap (xor_all seed) (sym (take-add i n s))
+
+-- eight bytes more are taken in as one number
+abbrev pub word_in : ℕ → List ℕ → ℕ
+word_in acc w = bit_xor acc (from_le_bytes w64 w)
+
+word-taken : (acc : ℕ) (w : List ℕ) → Bytes w → length w ≡ 8 → folded 8 (word_in acc w) ≡ xor_all (folded 8 acc) w
+word-taken acc w b l =
+    folded_xor 8 acc (from_le_bytes w64 w)
+    ∙ ap (bit_xor (folded 8 acc)) (ap (folded 8) (packed-eight w l) ∙ ap (λ (n : ℕ). folded n (packed w)) (sym l) ∙ folded-packed b)
+    ∙ sym (xor_all_seed (folded 8 acc) 0 w)
+    ∙ ap (λ (x : ℕ). xor_all x w) (xor_zero_r (folded 8 acc))
+
+-- the first k words are taken in one after the other
+pub words_taken : (k acc : ℕ) (s : List ℕ) → Bytes s → k * 8 ≤ length s
+    → folded 8 (fold word_in acc (first_chunks 8 k s)) ≡ xor_all (folded 8 acc) (take (k * 8) s)
+words_taken zero acc s b h = sym (xor_all_nil _)
+words_taken (suc k) acc s b h =
+    let w : List ℕ = take 8 s in
+    let size : length w ≡ 8 = length-take-le 8 s (omega arith) in
+    let whole : 8 + k * 8 ≡ suc k * 8 = omega arith in
+    words_taken k (word_in acc w) (drop 8 s) (bytes_drop 8 b) (omega (arith, length-drop 8 s))
+    ∙ ap (λ (x : ℕ). xor_all x (take (k * 8) (drop 8 s))) (word-taken acc w (bytes_take 8 b) size)
+    ∙ sym (xor_all-append (folded 8 acc) w (take (k * 8) (drop 8 s)))
+    ∙ ap (xor_all (folded 8 acc)) (sym (take-add 8 (k * 8) s) ∙ ap (λ (n : ℕ). take n s) whole)

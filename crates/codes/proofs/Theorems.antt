@@ -11,7 +11,7 @@ use lib.Bits.{bit_and}
 use borrow.Author.Tests.{eq-eqb, ne_eqb}
 use Rattle.codes.specs.Codes.{all_codes, bit, member, no_codes, inserted, in_both, how_many, count_of, first_of, next_of}
 use Rattle.codes.specs.Statements.{NoneInside, AssignsOne, BothInside, CountsNone, CountsInserted, NextIsLeast, NextIsNothing}
-use Rattle.codes.specs.declared.Next.TheVariants.{Code, Nothing}
+use Rattle.std.specs.Prelude.{Some, None}
 use Rattle.codes.proofs.Bits.{bit-none, bit-and}
 use Rattle.codes.proofs.Counting.{how_many-none, how_many_change, how_many_le}
 use Rattle.codes.proofs.Members.{member-assigned}
@@ -61,18 +61,18 @@ unfolding count_of
 count_le ws = how_many_le (member ws) all_codes
 
 -- the least number that a test holds of, found or not
-first_found : (p : ℕ → Bool) (n c k : ℕ) → c ≤ k → k < c + n → p k ≡ true → ((j : ℕ) → c ≤ j → j < k → p j ≡ false) → first_of p n c ≡ Code k
+first_found : (p : ℕ → Bool) (n c k : ℕ) → c ≤ k → k < c + n → p k ≡ true → ((j : ℕ) → c ≤ j → j < k → p j ≡ false) → first_of p n c ≡ Some k
 unfolding first_of
 first_found p zero c k l h t f = absurd (omega arith)
 first_found p (suc n) c k l h t f = ⊎_elim here (later (first_found p n (suc c) k)) (eq-or-lt_of_le l)
   where
-    here : c ≡ k → first_of p (suc n) c ≡ Code k
-    here e = rw (ap p e ∙ t) (ap Code e)
+    here : c ≡ k → first_of p (suc n) c ≡ Some k
+    here e = rw (ap p e ∙ t) (ap Some e)
 
-    later : (suc c ≤ k → k < suc c + n → p k ≡ true → ((j : ℕ) → suc c ≤ j → j < k → p j ≡ false) → first_of p n (suc c) ≡ Code k) → c < k → first_of p (suc n) c ≡ Code k
+    later : (suc c ≤ k → k < suc c + n → p k ≡ true → ((j : ℕ) → suc c ≤ j → j < k → p j ≡ false) → first_of p n (suc c) ≡ Some k) → c < k → first_of p (suc n) c ≡ Some k
     later ih q = rw (f c (omega arith) q) (ih q (omega arith) t (λ j a b. f j (omega arith) b))
 
-first-none : (p : ℕ → Bool) (n c : ℕ) → ((j : ℕ) → c ≤ j → j < c + n → p j ≡ false) → first_of p n c ≡ Nothing
+first-none : (p : ℕ → Bool) (n c : ℕ) → ((j : ℕ) → c ≤ j → j < c + n → p j ≡ false) → first_of p n c ≡ None
 unfolding first_of
 first-none p zero c f = refl
 first-none p (suc n) c f = rw (f c (omega arith) (omega arith)) (first-none p n (suc c) (λ j a b. f j (omega arith) (omega arith)))

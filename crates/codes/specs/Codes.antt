@@ -1,9 +1,7 @@
 -- Document 01, "The board": "The set of declared codes is four 64-bit words, one bit a code; the number declared and the next declared
 -- code are read from them." A set of VCP codes is the list of its words.
-use Rattle.std.specs.Prelude.{ℕ, zero, suc, ◌+◌, ◌-◌, ◌/◌, ◌%◌, ◌^◌, Bool, true, cond, List, [], ◌∷◌, get_or, set, replicate, eqb}
+use Rattle.std.specs.Prelude.{ℕ, zero, suc, ◌+◌, ◌-◌, ◌/◌, ◌%◌, ◌^◌, Bool, true, cond, List, [], ◌∷◌, get_or, set, replicate, eqb, Option, Some, None}
 use Rattle.std.specs.Int.Bits.{bit_and}
-use Rattle.codes.specs.declared.Next.{Next}
-use Rattle.codes.specs.declared.Next.TheVariants.{Code, Nothing}
 
 -- "each code 0 to 255"
 abbrev pub all_codes : ℕ
@@ -55,10 +53,10 @@ unfoldable pub count_of : List ℕ → ℕ
 count_of ws = how_many (member ws) all_codes
 
 -- the least of c to c + n - 1 that p holds of, or nothing
-unfoldable pub first_of : (ℕ → Bool) → ℕ → ℕ → Next
-first_of p zero c = Nothing
-first_of p (suc n) c = cond (p c) (Code c) (first_of p n (suc c))
+unfoldable pub first_of : (ℕ → Bool) → ℕ → ℕ → Option ℕ
+first_of p zero c = None
+first_of p (suc n) c = cond (p c) (Some c) (first_of p n (suc c))
 
 -- "the next declared code": the least code not below c that is in the set, or nothing
-unfoldable pub next_of : List ℕ → ℕ → Next
+unfoldable pub next_of : List ℕ → ℕ → Option ℕ
 next_of ws c = first_of (member ws) (all_codes - c) c

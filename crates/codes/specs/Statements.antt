@@ -1,7 +1,6 @@
 -- What the definitions of Codes.antt come to, in terms of membership alone. proofs/Theorems.antt proves each.
-use Rattle.std.specs.Prelude.{ℕ, ◌+◌, ◌≤◌, ◌<◌, ◌≡◌, Bool, true, false, cond, ◌&&◌, List, length, eqb}
+use Rattle.std.specs.Prelude.{ℕ, ◌+◌, ◌≤◌, ◌<◌, ◌≡◌, Bool, true, false, cond, ◌&&◌, List, length, eqb, Some, None}
 use Rattle.codes.specs.Codes.{all_codes, member, no_codes, inserted, assigned, in_both, count_of, next_of}
-use Rattle.codes.specs.declared.Next.TheVariants.{Code, Nothing}
 
 -- the set of no code has none
 abbrev pub NoneInside : Type 0
@@ -26,7 +25,7 @@ CountsInserted = (ws : List ℕ) (c : ℕ) → length ws ≡ 4 → c < all_codes
 -- the next code is the least one not below c; it is nothing where no code from c on is in the set
 abbrev pub NextIsLeast : Type 0
 NextIsLeast = (ws : List ℕ) (c k : ℕ) → c ≤ k → k < all_codes → member ws k ≡ true → ((j : ℕ) → c ≤ j → j < k → member ws j ≡ false)
-    → next_of ws c ≡ Code k
+    → next_of ws c ≡ Some k
 
 abbrev pub NextIsNothing : Type 0
-NextIsNothing = (ws : List ℕ) (c : ℕ) → ((j : ℕ) → c ≤ j → j < all_codes → member ws j ≡ false) → next_of ws c ≡ Nothing
+NextIsNothing = (ws : List ℕ) (c : ℕ) → ((j : ℕ) → c ≤ j → j < all_codes → member ws j ≡ false) → next_of ws c ≡ None

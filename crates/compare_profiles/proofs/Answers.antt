@@ -11,9 +11,9 @@ use mathlib.Core.Bool.{Bool, true, false}
 use Rattle.checksum.specs.Bytes.{Bytes}
 use Rattle.checksum.proofs.Bytes.{bytes_take}
 use Rattle.codes.specs.Codes.{all_codes}
-use Rattle.profile_form_rules.specs.Form.{Setting, settings_of}
+use Rattle.profile_form_rules.specs.Form.{Judged, settings_of}
+use Rattle.profile_form_rules.specs.declared.Setting.{Setting}
 use Rattle.profile_form_rules.specs.Statements.{IsProfile, SomeProfile, Stands, here, later}
-use Rattle.profile_form_rules.specs.declared.Judged.{Judged}
 use Rattle.profile_form_rules.proofs.Theorems.{accepts-exactly, read_and_written, at-most_256, long-cut}
 use Rattle.profile_compare_rules.specs.Compare.{absent, value_of, Difference, differences, Room, lent, listed_in, Outcome, outcome, compare_profiles}
 use Rattle.profile_compare_rules.specs.Statements.{IsList, lines_in, lines_of}

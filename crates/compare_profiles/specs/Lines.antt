@@ -3,7 +3,7 @@
 use Rattle.std.specs.Prelude.{ℕ, ◌<◌, ◌≡◌, List, [], ◌∷◌, ◌++◌, take}
 use Rattle.checksum.specs.Bytes.{Bytes}
 use Rattle.numerals.specs.Numerals.{Decimal, hexadecimal}
-use Rattle.profile_form_rules.specs.Form.{Setting}
+use Rattle.profile_form_rules.specs.declared.Setting.{Setting}
 use Rattle.profile_form_rules.specs.Statements.{IsProfile, SomeProfile}
 use Rattle.profile_compare_rules.specs.Compare.{Difference}
 use Rattle.profile_compare_rules.specs.Statements.{IsList}

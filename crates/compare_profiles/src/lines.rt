@@ -21,6 +21,7 @@ pub(crate) const TEXT_ROOM: usize = MOST_DIFFERENCES * LINE_ROOM;
 
 // Puts a value into a text at an index: its decimal digits, or "-" where it is absent.
 // Returns the index behind it.
+// A number, not an Option: the arrays that a comparison is lent hold 65,536 for an absent value, as C reads them.
 fn put_value(text: &mut [u8], at: usize, value: u32) -> usize
     requires { (value ≤ absent) × (at + value_room ≤ length text.old) }
     ensures { PutsValue value text.old at text.new result }
@@ -55,10 +56,8 @@ fn put_lines(codes: &[u8], firsts: &[u32], seconds: &[u32], n: usize, text: &mut
     ensures { PutsLines (lines_in n codes.now firsts.now seconds.now) text.old text.new result }
 {
     let mut at: usize = 0;
-    let mut k: usize = 0;
-    while k < n {
-        at = put_line(text, at, codes[k], firsts[k], seconds[k]);
-        k += 1;
+    for (k, code) in codes[..n].iter().enumerate() {
+        at = put_line(text, at, *code, firsts[k], seconds[k]);
     }
     at
 }
@@ -80,6 +79,7 @@ pub(crate) fn put_answer(first: &[u8], second: &[u8], text: &mut [u8]) -> usize
     requires { text_room ≤ length text.old }
     ensures { PutsAnswer first.now second.now text.old text.new result }
 {
+    // Three rows and their number, and a number as the answer: C calls the comparison so.
     let mut codes = [0u8; MOST_DIFFERENCES];
     let mut firsts = [0u32; MOST_DIFFERENCES];
     let mut seconds = [0u32; MOST_DIFFERENCES];

@@ -9,7 +9,6 @@ ghost use Rattle.std.specs.Prelude.{◌≤◌, length};
 ghost use Rattle.compare_profiles.specs.Parts.{text_room};
 
 use buffers::front;
-use input::Input;
 use lines::TEXT_ROOM;
 use profile_form_rules::LONGEST_PROFILE;
 use std::env::{Env, FillError};
@@ -25,33 +24,25 @@ const PROFILE_ROOM: usize = LONGEST_PROFILE + 1;
 // Returns whether the program was given this argument: 1 is the first behind its own name.
 fn is_given(rt: &impl Env, argument: usize) -> bool {
     let mut start = [0u8; 1];
-    match rt.arg(argument, &mut start) {
-        Err(FillError::NotPresent) => false,
-        _ => true,
-    }
+    !matches!(rt.arg(argument, &mut start), Err(FillError::NotPresent))
 }
 
 // Reads the file at a path, to its end or until the room is full.
+// Returns how many bytes came, or nothing, where it cannot be read.
 // A path that is not UTF-8, and a file that does not open, count as one that cannot be read.
-fn read_at<R: Files>(rt: &R, path: &[u8], profile: &mut [u8]) -> Input {
-    let name = match str::from_utf8(path) {
-        Ok(name) => name,
-        Err(_) => return Input::Failed,
-    };
-    match File::open(rt, name) {
-        Ok(mut file) => input::read_to_end(&mut file, profile),
-        Err(_) => Input::Failed,
-    }
+fn read_at<R: Files>(rt: &R, path: &[u8], profile: &mut [u8]) -> Option<usize> {
+    let name = str::from_utf8(path).ok()?;
+    let mut file = File::open(rt, name).ok()?;
+    input::read_to_end(&mut file, profile).ok()
 }
 
 // Reads the file that an argument names, to its end or until the room is full.
+// Returns how many bytes came, or nothing, where it cannot be read.
 // An argument that is missing, and one that is too long for a path, count as one that cannot be read.
-fn read_file<R: Env + Files>(rt: &R, argument: usize, profile: &mut [u8]) -> Input {
+fn read_file<R: Env + Files>(rt: &R, argument: usize, profile: &mut [u8]) -> Option<usize> {
     let mut path = [0u8; PATH_ROOM];
-    match rt.arg(argument, &mut path) {
-        Ok(n) => read_at(rt, front(&path, n), profile),
-        Err(_) => Input::Failed,
-    }
+    let n = rt.arg(argument, &mut path).ok()?;
+    read_at(rt, front(&path, n), profile)
 }
 
 // Puts what is to be written of the first file's profile and the file of the second argument at the start of a text.
@@ -60,10 +51,9 @@ fn put_with_second<R: Env + Files>(rt: &R, first: &[u8], text: &mut [u8]) -> usi
     requires { text_room ≤ length text.old }
 {
     let mut second = [0u8; PROFILE_ROOM];
-    let read = read_file(rt, 2, &mut second);
-    match read {
-        Input::Bytes(n) => lines::put_answer(first, front(&second, n), text),
-        Input::Failed => lines::put_refused(text),
+    match read_file(rt, 2, &mut second) {
+        Some(n) => lines::put_answer(first, front(&second, n), text),
+        None => lines::put_refused(text),
     }
 }
 
@@ -76,10 +66,9 @@ fn put_compared<R: Env + Files>(rt: &R, text: &mut [u8]) -> usize
         return lines::put_refused(text);
     }
     let mut first = [0u8; PROFILE_ROOM];
-    let read = read_file(rt, 1, &mut first);
-    match read {
-        Input::Bytes(n) => put_with_second(rt, front(&first, n), text),
-        Input::Failed => lines::put_refused(text),
+    match read_file(rt, 1, &mut first) {
+        Some(n) => put_with_second(rt, front(&first, n), text),
+        None => lines::put_refused(text),
     }
 }
 

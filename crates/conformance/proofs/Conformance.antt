@@ -13,7 +13,7 @@ use Rattle.message_rules.specs.Message.{requests, encode, to_display}
 use Rattle.settings_rules.specs.declared.Declaration.{Declaration}
 use Rattle.display_rules.specs.State.{cursor_of, declare}
 use Rattle.display_rules.specs.Turn.{bytes_of}
-use Rattle.display_rules.specs.Fragments.{lesser, fragment_at, fragment_reply}
+use Rattle.display_rules.specs.Fragments.{fragment_at, fragment_reply}
 use Rattle.display_rules.specs.Step.{Outcome}
 use Rattle.display_rules.specs.Kept.{Kept, step_kept, kept_declared, kept_loaded}
 use Rattle.display_rules.specs.Statements.{Sound, whole, asks_for, Reads, Untouched}
@@ -29,7 +29,7 @@ use Rattle.conformance.specs.Conformance.{held, Acts, Conforms}
 
 -- "1 to 32 and at most the bytes left from o, but 0 when none are left": the lesser of the fragment size and what is
 -- left is one
-size-allowed : (p left s : ℕ) → 1 ≤ p → p ≤ most_fragment → s ≡ lesser p left → SizeAllowed left s
+size-allowed : (p left s : ℕ) → 1 ≤ p → p ≤ most_fragment → s ≡ cond (ltb p left) p left → SizeAllowed left s
 size-allowed p left s low high e = go (ltb p left) refl e
   where
     go : (t : Bool) → ltb p left ≡ t → s ≡ cond t p left → SizeAllowed left s

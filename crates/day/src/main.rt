@@ -8,39 +8,45 @@ mod starting;
 mod tasks;
 
 use day_host::texts;
-use site::Site;
+use day_report::{TASKS, Task};
+use site::{Place, Site};
 
-// How many tasks the day has. Each is done with one display, then with the other.
-const TASKS: usize = 5;
+// The first display.
+const ONE: Place = Place {
+    number: 1,
+    size: 32,
+    seed: 26302,
+};
 
-// Returns a display's site after a task of the day.
-fn perform(task: usize, number: u64, s: Site, list: &[u8]) -> Site {
-    day_report::subheading(number);
+// The second one.
+const TWO: Place = Place {
+    number: 2,
+    size: 7,
+    seed: 20979,
+};
+
+// Does a task of the day with a display.
+fn perform(task: Task, s: &mut Site, list: &[u8]) {
+    day_report::subheading(s.number);
     match task {
-        0 => tasks::write_list(s, list),
-        1 => tasks::adjust(s),
-        2 => tasks::read_list(s, number, list),
-        3 => tasks::read_capabilities(s, number),
-        _ => tasks::close(s, number),
+        Task::WriteList => tasks::write_list(s, list),
+        Task::Adjust => tasks::adjust(s),
+        Task::ReadList => tasks::read_list(s, list),
+        Task::ReadCapabilities => tasks::read_capabilities(s),
+        Task::Close => tasks::close(s),
     }
 }
 
-// Plays the day with two displays: one sends fragments of 32 bytes, the other of 7.
-fn day(list: &[u8]) {
-    day_report::opening();
-    let mut one = starting::start(1, 32, 26302);
-    let mut two = starting::start(2, 7, 20979);
-    let mut task: usize = 0;
-    while task < TASKS {
-        day_report::heading(task);
-        one = perform(task, 1, one, list);
-        two = perform(task, 2, two, list);
-        task += 1;
-    }
-    day_report::verdict(one.good, two.good);
-}
-
+// Plays the day with two displays.
 fn main() {
     let list = texts::call_list();
-    day(&list);
+    day_report::opening();
+    let mut one = starting::start(ONE);
+    let mut two = starting::start(TWO);
+    for task in TASKS {
+        day_report::heading(task);
+        perform(task, &mut one, &list);
+        perform(task, &mut two, &list);
+    }
+    day_report::verdict(one.good, two.good);
 }

@@ -1,17 +1,18 @@
 // The single messages that the tent sends, each with what should come of it.
 use crate::requests;
-use day_line::Frame;
 use day_report::messages;
+use day_report::messages::Code;
+use frames::Frame;
 use message_reply_reader::{ReplyRead, read_display_reply};
 use message_rules::answer;
 
 // A message of the tent, with what should come of it.
 #[derive(Clone, Copy)]
 pub enum Action {
-    // A Set of a code to a value, and the answer that it should have.
-    Set(u8, u16, u8),
+    // A Set of a code to a value, and the answer that it should have: a number, as the step for C answers.
+    Set(Code, u16, u8),
     // A Get of a code, and the value that it should find.
-    Get(u8, u16),
+    Get(Code, u16),
     // A Save.
     Save,
     // A Table write that clears the list.
@@ -29,48 +30,33 @@ pub fn message(a: Action) -> Frame {
 }
 
 // Returns the present value that the reply to a Get carries, or 0.
-fn value_of(reply: Frame) -> u16 {
-    let bytes = reply.bytes;
-    match read_display_reply(&bytes) {
-        ReplyRead::Value { present, .. } => present,
-        ReplyRead::Timing { .. } => 0,
-        ReplyRead::TextFragment { .. } => 0,
-        ReplyRead::TableFragment { .. } => 0,
-        ReplyRead::Refused(_) => 0,
+fn value_of(reply: &Frame) -> u16 {
+    match read_display_reply(&reply.bytes) {
+        Ok(ReplyRead::Value { present, .. }) => present,
+        _ => 0,
     }
-}
-
-// Returns whether the answer is done and the number is the one wanted.
-fn done(answer: u8, number: usize, wanted: usize) -> bool {
-    if answer == answer::DONE {
-        return number == wanted;
-    }
-    false
-}
-
-// Writes the value that a Get found, and returns whether it is the one wanted.
-fn got(code: u8, wanted: u16, answer: u8, reply: Frame) -> bool {
-    let value = value_of(reply);
-    messages::get(code, value);
-    done(answer, value as usize, wanted as usize)
 }
 
 // Writes what came of an action, and returns whether it is what should come of it.
 // Judged are the display's answer, its reply, and how many bytes of a list are left.
-pub fn judged(a: Action, answer: u8, reply: Frame, left: usize) -> bool {
+pub fn judged(a: Action, answer: u8, reply: &Frame, left: usize) -> bool {
     match a {
         Action::Set(code, value, wanted) => {
             messages::set(code, value, answer);
             answer == wanted
         }
-        Action::Get(code, wanted) => got(code, wanted, answer, reply),
+        Action::Get(code, wanted) => {
+            let value = value_of(reply);
+            messages::get(code, value);
+            answer == answer::DONE && value == wanted
+        }
         Action::Save => {
             messages::saved(answer);
             answer == answer::DONE
         }
         Action::Clear => {
             messages::cleared(left, answer);
-            done(answer, left, 0)
+            answer == answer::DONE && left == 0
         }
     }
 }

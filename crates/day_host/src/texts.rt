@@ -11,19 +11,19 @@ pub const TEXT_SIZE: usize = 55;
 const RECORD: usize = 12;
 
 // How many records the list has.
-const RECORDS: usize = 85;
+const RECORDS: u32 = 85;
 
 // The bytes of the list.
-pub const LIST_SIZE: usize = 1020;
+pub const LIST_SIZE: usize = RECORD * RECORDS as usize;
 
 // The token of the first record. The tokens rise by one.
-const FIRST_TOKEN: usize = 101;
+const FIRST_TOKEN: u32 = 101;
 
 // The lowest household.
-const FIRST_HOUSEHOLD: usize = 2000;
+const FIRST_HOUSEHOLD: u32 = 2000;
 
 // The step from one record's household to the next: they come in a mixed order, each once.
-const HOUSEHOLD_STEP: usize = 31;
+const HOUSEHOLD_STEP: u32 = 31;
 
 // Returns the capabilities string, with two zeros behind it.
 pub fn capabilities() -> [u8; TEXT_SIZE] {
@@ -36,29 +36,20 @@ pub fn capabilities_size(number: u64) -> usize {
     if number == 1 { STRING_SIZE } else { TEXT_SIZE }
 }
 
-// Returns the byte of a record at this index.
-fn byte_of(record: usize, field: usize) -> u8 {
-    let r = record % RECORDS;
-    let token = FIRST_TOKEN + r;
-    let household = FIRST_HOUSEHOLD + r * HOUSEHOLD_STEP % RECORDS;
-    match field {
-        0 => 10,
-        2 => 32,
-        4 => (token % 256) as u8,
-        5 => (token / 256 % 256) as u8,
-        8 => (household % 256) as u8,
-        9 => (household / 256 % 256) as u8,
-        _ => 0,
-    }
+// Returns record r of the list.
+fn record(r: u32) -> [u8; RECORD] {
+    let r = r % RECORDS;
+    let [t0, t1, t2, t3] = (FIRST_TOKEN + r).to_le_bytes();
+    let [h0, h1, h2, h3] = (FIRST_HOUSEHOLD + r * HOUSEHOLD_STEP % RECORDS).to_le_bytes();
+    [10, 0, 32, 0, t0, t1, t2, t3, h0, h1, h2, h3]
 }
 
 // Returns the call list.
 pub fn call_list() -> [u8; LIST_SIZE] {
     let mut list = [0u8; LIST_SIZE];
-    let mut i: usize = 0;
-    while i < LIST_SIZE {
-        list[i] = byte_of(i / RECORD, i % RECORD);
-        i += 1;
+    let (records, _) = list.as_chunks_mut::<RECORD>();
+    for (place, r) in records.iter_mut().zip(0..RECORDS) {
+        *place = record(r);
     }
     list
 }

@@ -3,7 +3,7 @@ use Rattle.std.specs.Prelude.{ℕ, ◌*◌, ◌/◌, ◌%◌, cond, List, ◌==�
 use Rattle.message_rules.specs.Limits.{output_room}
 use Rattle.day_line.specs.declared.Fate.{Fate}
 use Rattle.day_line.specs.declared.Fate.TheVariants.{Good, RequestLost, ReplyLost, Cut, Flipped, Repeated}
-use Rattle.day_line.specs.declared.Frame.{Frame}
+use Rattle.frames.specs.declared.Frame.{Frame}
 use Rattle.day_line.specs.declared.Line.{Line}
 
 -- five exchanges in sixteen are spoiled, each by a number of its own

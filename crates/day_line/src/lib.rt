@@ -7,6 +7,7 @@ pub mod tally;
 ghost use Rattle.std.specs.Prelude.{◌≡◌};
 ghost use Rattle.day_line.specs.Line as rules;
 
+use frames::Frame;
 use message_rules::limits::OUTPUT_ROOM;
 
 // What becomes of an exchange.
@@ -26,15 +27,6 @@ pub enum Fate {
     Repeated,
 }
 
-// A message as it goes over a line.
-#[derive(Clone, Copy)]
-pub struct Frame {
-    // Its bytes, which stand in front.
-    pub bytes: [u8; OUTPUT_ROOM],
-    // How many they are.
-    pub len: usize,
-}
-
 // A line.
 #[derive(Clone, Copy)]
 pub struct Line {
@@ -44,24 +36,13 @@ pub struct Line {
     pub last: Frame,
 }
 
-// Returns a frame without bytes.
-pub fn nothing() -> Frame
-    ensures { result.len ≡ 0 }
-{
-    Frame {
-        bytes: [0u8; OUTPUT_ROOM],
-        len: 0,
-    }
-}
-
 // Returns a line that nothing went over.
 pub fn quiet(seed: u64) -> Line
     ensures { (result.seed ≡ seed) × (result.last.len ≡ 0) }
 {
-    let last = nothing();
     Line {
-        seed: seed,
-        last: last,
+        seed,
+        last: Frame::EMPTY,
     }
 }
 
@@ -69,8 +50,7 @@ pub fn quiet(seed: u64) -> Line
 pub fn draw(seed: u64) -> Fate
     ensures { result ≡ rules.draw seed }
 {
-    let drawn = seed / 4096 % 16;
-    match drawn {
+    match seed / 4096 % 16 {
         0 => Fate::RequestLost,
         1 => Fate::ReplyLost,
         2 => Fate::Cut,
@@ -82,14 +62,11 @@ pub fn draw(seed: u64) -> Fate
 
 // Returns a frame with the same bytes, of which only the first n count.
 #[tactic(auto, unfolding(crate::specs::Line::cut))]
-fn cut(f: Frame, n: usize) -> Frame
+fn cut(mut f: Frame, n: usize) -> Frame
     ensures { result ≡ rules.cut f n }
 {
-    let bytes = f.bytes;
-    Frame {
-        bytes: bytes,
-        len: n,
-    }
+    f.len = n;
+    f
 }
 
 // Returns what arrives of a request.
@@ -98,12 +75,8 @@ pub fn heard(fate: Fate, request: Frame) -> Frame
     ensures { result ≡ rules.heard fate request }
 {
     match fate {
-        Fate::Good => request,
         Fate::RequestLost => cut(request, 0),
-        Fate::ReplyLost => request,
-        Fate::Cut => request,
-        Fate::Flipped => request,
-        Fate::Repeated => request,
+        _ => request,
     }
 }
 
@@ -123,8 +96,7 @@ fn flip(mut bytes: [u8; OUTPUT_ROOM], at: usize) -> [u8; OUTPUT_ROOM]
     ensures { result ≡ rules.flip bytes at }
 {
     if at < OUTPUT_ROOM {
-        bytes[at] = bytes[at] ^ 4;
-        return bytes;
+        bytes[at] ^= 4;
     }
     bytes
 }
@@ -134,10 +106,8 @@ fn flip(mut bytes: [u8; OUTPUT_ROOM], at: usize) -> [u8; OUTPUT_ROOM]
 fn flipped(reply: Frame, seed: u64) -> Frame
     ensures { result ≡ rules.flipped reply seed }
 {
-    let before = reply.bytes;
-    let bytes = flip(before, below(reply.len, seed));
     Frame {
-        bytes: bytes,
+        bytes: flip(reply.bytes, below(reply.len, seed)),
         len: reply.len,
     }
 }
@@ -148,8 +118,7 @@ pub fn came(l: Line, fate: Fate, reply: Frame) -> Frame
 {
     match fate {
         Fate::Good => reply,
-        Fate::RequestLost => cut(reply, 0),
-        Fate::ReplyLost => cut(reply, 0),
+        Fate::RequestLost | Fate::ReplyLost => cut(reply, 0),
         Fate::Cut => cut(reply, below(reply.len, l.seed)),
         Fate::Flipped => flipped(reply, l.seed),
         Fate::Repeated => l.last,
@@ -161,9 +130,8 @@ pub fn after(mut l: Line, f: Frame) -> Line
     ensures { result ≡ rules.after l f }
 {
     l.seed = l.seed % 2147483647 * 16807 % 2147483647;
-    if f.len == 0 {
-        return l;
+    if f.len != 0 {
+        l.last = f;
     }
-    l.last = f;
     l
 }

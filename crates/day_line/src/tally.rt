@@ -1,8 +1,11 @@
 // What became of the exchanges of a transfer, in numbers.
+ghost use Rattle.std.specs.Prelude.{◌≡◌};
+ghost use Rattle.day_line.specs.Tally.{tallied, all_told};
+
 use crate::Fate;
 
 // What became of the exchanges that were counted.
-#[derive(Clone, Copy)]
+#[derive(Clone, Copy, Default)]
 pub struct Tally {
     // How many were accepted.
     pub accepted: u64,
@@ -16,43 +19,30 @@ pub struct Tally {
     pub repeated: u64,
 }
 
-// Returns a tally of no exchange.
-pub fn none() -> Tally {
-    Tally {
-        accepted: 0,
-        lost: 0,
-        cut: 0,
-        flipped: 0,
-        repeated: 0,
+impl Tally {
+    // Counts one more exchange. It counts as spoiled where it was not accepted.
+    #[tactic(auto, unfolding(crate::specs::Tally::tallied))]
+    pub fn count(&mut self, fate: Fate, accepted: bool)
+        ensures { self.new ≡ tallied self.old fate accepted }
+    {
+        match fate {
+            _ if accepted => self.accepted = self.accepted.wrapping_add(1),
+            Fate::Good => {}
+            Fate::RequestLost | Fate::ReplyLost => self.lost = self.lost.wrapping_add(1),
+            Fate::Cut => self.cut = self.cut.wrapping_add(1),
+            Fate::Flipped => self.flipped = self.flipped.wrapping_add(1),
+            Fate::Repeated => self.repeated = self.repeated.wrapping_add(1),
+        }
     }
-}
 
-// Returns a sum, which wraps at 2 to the 64.
-fn sum(a: u64, b: u64) -> u64 {
-    u64::wrapping_add(a, b)
-}
-
-// Returns the tally with one more exchange. It counts as spoiled where it was not accepted.
-pub fn tallied(mut t: Tally, fate: Fate, accepted: bool) -> Tally {
-    if accepted {
-        t.accepted = sum(t.accepted, 1);
-        return t;
+    // Returns whether this many exchanges were all accepted or spoiled.
+    // Then what the line left alone was never refused.
+    #[tactic(auto, unfolding(crate::specs::Tally::all_told))]
+    pub fn all_told(&self, count: u16) -> bool
+        ensures { result ≡ all_told self.now count }
+    {
+        let lost = self.lost.wrapping_add(self.cut);
+        let other = self.flipped.wrapping_add(self.repeated);
+        self.accepted.wrapping_add(lost).wrapping_add(other) == u64::from(count)
     }
-    match fate {
-        Fate::Good => {}
-        Fate::RequestLost => t.lost = sum(t.lost, 1),
-        Fate::ReplyLost => t.lost = sum(t.lost, 1),
-        Fate::Cut => t.cut = sum(t.cut, 1),
-        Fate::Flipped => t.flipped = sum(t.flipped, 1),
-        Fate::Repeated => t.repeated = sum(t.repeated, 1),
-    }
-    t
-}
-
-// Returns whether this many exchanges were all accepted or spoiled.
-// Then what the line left alone was never refused.
-pub fn all_told(t: Tally, count: u16) -> bool {
-    let lost = sum(t.lost, t.cut);
-    let other = sum(t.flipped, t.repeated);
-    sum(t.accepted, sum(lost, other)) == count as u64
 }

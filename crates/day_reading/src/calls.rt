@@ -1,11 +1,13 @@
 // 06:00, behind the reading: the gates check the list that they read.
 // The households of its first four records are 2000, 2031, 2062 and 2008.
 use buffers::{put, put_octet};
-use call_list_rules::Found;
+use call_list_rules::EntryNumber;
 use day_report::checks;
-use message_rules::answer;
+use message_rules::refusal::{Refusal, RefusedAt};
+use message_rules::{Position, answer};
 
 // The bytes of the list.
+// Written down once more: the gates judge by numbers of their own, not by the tent's.
 const LIST_SIZE: usize = 1020;
 
 // How many households it calls.
@@ -15,10 +17,10 @@ const HOUSEHOLDS: usize = 85;
 const HOUSEHOLD: u32 = 2008;
 
 // The number of its entry.
-const ENTRY: usize = 3;
+const ENTRY: EntryNumber = EntryNumber(3);
 
 // The byte at which that entry starts.
-const START: usize = 36;
+const START: Position = Position(36);
 
 // Where the low byte of its household stands in the list.
 const LOW_BYTE: usize = 44;
@@ -28,11 +30,11 @@ const OTHER_LOW_BYTE: u8 = 0xD0;
 
 // Writes which entry calls the household.
 // Returns whether it is the one that should.
-fn called(f: Found) -> bool {
-    match f {
-        Found::At(number) => {
+fn called(found: Result<Option<EntryNumber>, RefusedAt>) -> bool {
+    match found {
+        Ok(Some(number)) => {
             checks::called(HOUSEHOLD, number.0);
-            number.0 == ENTRY
+            number == ENTRY
         }
         _ => {
             checks::never_called(HOUSEHOLD);
@@ -44,21 +46,20 @@ fn called(f: Found) -> bool {
 // Writes what the check and a query say of the list that was read.
 // Returns whether it calls every household once.
 fn accepted(list: &[u8]) -> bool {
-    let checked = call_list::check(list);
-    if checked.answer != answer::DONE {
-        checks::answered(
-            b"    the gate's check: ",
-            checked.answer,
-            checked.position.0,
-        );
-        return false;
+    match call_list::check(list) {
+        Ok(entries) => {
+            checks::checked(entries);
+            called(call_list::find(list, HOUSEHOLD)) && entries == HOUSEHOLDS
+        }
+        Err(refused) => {
+            checks::answered(
+                b"    the gate's check: ",
+                u8::from(refused.refusal),
+                refused.position.0,
+            );
+            false
+        }
     }
-    checks::checked(checked.entries);
-    let found = called(call_list::find(list, HOUSEHOLD));
-    if checked.entries == HOUSEHOLDS {
-        return found;
-    }
-    false
 }
 
 // Writes what the check says of a copy that calls household 2000 twice.
@@ -68,24 +69,23 @@ fn refused(list: &[u8]) -> bool {
     put(&mut copy, 0, list);
     put_octet(&mut copy, LOW_BYTE, OTHER_LOW_BYTE);
     let checked = call_list::check(&copy);
+    let (answer, position) = match checked {
+        Ok(_) => (answer::DONE, LIST_SIZE),
+        Err(refused) => (u8::from(refused.refusal), refused.position.0),
+    };
     checks::answered(
         b"    a copy with household 2000 in place of 2008: ",
-        checked.answer,
-        checked.position.0,
+        answer,
+        position,
     );
-    if checked.answer == answer::REPEATED_HOUSEHOLD {
-        return checked.position.0 == START;
-    }
-    false
+    checked
+        == Err(RefusedAt {
+            refusal: Refusal::RepeatedHousehold,
+            position: START,
+        })
 }
 
 // Returns whether a display's list is checked as it should be; of the first display a damaged copy too.
 pub(crate) fn checked(number: u64, list: &[u8]) -> bool {
-    if accepted(list) {
-        if number == 1 {
-            return refused(list);
-        }
-        return true;
-    }
-    false
+    accepted(list) && (number != 1 || refused(list))
 }

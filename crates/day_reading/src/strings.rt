@@ -1,6 +1,5 @@
 // 12:00, behind the reading: a volunteer looks at the capabilities string that was read.
 use capabilities_checker::check;
-use capabilities_rules::Reading;
 use capabilities_rules::limits::MOST_NODES;
 use day_report::{OUT, checks};
 
@@ -10,14 +9,13 @@ const WORDS: usize = 12;
 // Writes how many words a string has that ends with zeros, or why it is refused.
 // Returns whether it has as many as there are without the zeros.
 fn counted(text: &[u8]) -> bool {
-    let reading = check(text, MOST_NODES);
-    match reading {
-        Reading::Accepted(words) => {
+    match check(text, MOST_NODES) {
+        Ok(words) => {
             checks::words(words);
             words == WORDS
         }
-        Reading::Refused(number, place) => {
-            checks::answered(b"    the string: ", number, place.0);
+        Err(at) => {
+            checks::answered(b"    the string: ", u8::from(at.refusal), at.position.0);
             false
         }
     }

@@ -24,13 +24,13 @@ pub fn checked(entries: usize) {
 pub fn called(household: u32, number: usize) {
     line(
         b"household # by entry #\n",
-        &[household as u64, number as u64],
+        &[u64::from(household), number as u64],
     );
 }
 
 // Writes that no entry calls it.
 pub fn never_called(household: u32) {
-    line(b"household # by NO ENTRY\n", &[household as u64]);
+    line(b"household # by NO ENTRY\n", &[u64::from(household)]);
 }
 
 // Writes that the second display's string, which ends with two zeros, is accepted, and how many words it has.

@@ -11,28 +11,16 @@ use buffers::{behind, front};
 // Where the day is told.
 pub const OUT: i32 = streams::STDOUT_FILENO;
 
-// Returns the index of the next `#` of a line, from this index on, or one behind the line.
-fn mark(line: &[u8], from: usize) -> usize {
-    let mut i = from;
-    while i < line.len() {
-        if line[i] == b'#' {
-            return i;
-        }
-        i += 1;
-    }
-    i
-}
-
 // Writes a line, with the numbers where each `#` stands.
 pub fn line(line: &[u8], numbers: &[u64]) {
-    let mut at = 0;
-    for k in 0..numbers.len() {
-        let next = mark(line, at);
-        show::text(OUT, behind(front(line, next), at));
-        show::number(OUT, numbers[k], 0);
-        at = usize::wrapping_add(next, 1);
+    let mut rest = line;
+    for n in numbers {
+        let mark = rest.iter().position(|b| *b == b'#').unwrap_or(rest.len());
+        show::text(OUT, front(rest, mark));
+        show::number(OUT, *n, 0);
+        rest = behind(rest, mark.saturating_add(1));
     }
-    show::text(OUT, behind(line, at));
+    show::text(OUT, rest);
 }
 
 // Writes how the day begins.
@@ -40,30 +28,48 @@ pub fn opening() {
     show::text(OUT, b"05:00  the tent starts two displays\n");
 }
 
+// What is done in the day, after the displays were started. Each is done with one display, then with the other.
+#[derive(Clone, Copy)]
+pub enum Task {
+    // The tent writes the call list.
+    WriteList,
+    // It sets brightness and input.
+    Adjust,
+    // The gates read the list back.
+    ReadList,
+    // A volunteer reads the capabilities strings.
+    ReadCapabilities,
+    // The settings are saved, and the list is cleared.
+    Close,
+}
+
+// The tasks of the day, one after the other.
+pub const TASKS: [Task; 5] = [
+    Task::WriteList,
+    Task::Adjust,
+    Task::ReadList,
+    Task::ReadCapabilities,
+    Task::Close,
+];
+
 // Writes the time of day, and what is done.
-pub fn heading(task: usize) {
-    match task {
-        0 => show::text(
-            OUT,
-            b"05:10  the tent writes the call list: 85 records, at most 31 bytes a message\n",
-        ),
-        1 => show::text(
-            OUT,
-            b"05:30  the tent sets brightness (at most 100) and input (15 is DisplayPort, 17 is HDMI)\n",
-        ),
-        2 => show::text(
-            OUT,
-            b"06:00  the gates read the list back over long cables (offsets and sizes in bytes)\n",
-        ),
-        3 => show::text(
-            OUT,
-            b"12:00  a volunteer reads the capabilities strings over the same cables\n",
-        ),
-        _ => show::text(
-            OUT,
-            b"18:30  dusk: the settings are saved and the list is cleared\n",
-        ),
-    }
+pub fn heading(task: Task) {
+    let what: &[u8] = match task {
+        Task::WriteList => {
+            b"05:10  the tent writes the call list: 85 records, at most 31 bytes a message\n"
+        }
+        Task::Adjust => {
+            b"05:30  the tent sets brightness (at most 100) and input (15 is DisplayPort, 17 is HDMI)\n"
+        }
+        Task::ReadList => {
+            b"06:00  the gates read the list back over long cables (offsets and sizes in bytes)\n"
+        }
+        Task::ReadCapabilities => {
+            b"12:00  a volunteer reads the capabilities strings over the same cables\n"
+        }
+        Task::Close => b"18:30  dusk: the settings are saved and the list is cleared\n",
+    };
+    show::text(OUT, what);
 }
 
 // Writes which display it is done with.
@@ -73,11 +79,9 @@ pub fn subheading(number: u64) {
 
 // Writes whether everything held, with both displays.
 pub fn verdict(one: bool, two: bool) {
-    if one {
-        if two {
-            show::text(OUT, b"everything held\n");
-            return;
-        }
+    if one && two {
+        show::text(OUT, b"everything held\n");
+    } else {
+        show::text(OUT, b"NOT EVERYTHING HELD\n");
     }
-    show::text(OUT, b"NOT EVERYTHING HELD\n");
 }

@@ -1,45 +1,49 @@
 // What came of the messages that the tent sends.
+// Answers are numbers here: the step and the call for C answer with numbers.
 use crate::{OUT, line};
-use buffers::{behind, front};
 
-// The code of brightness. The codes of the day stand in the order of their names below.
-pub const BRIGHTNESS: u8 = 0x10;
+// A code of the day, at its number.
+#[derive(Clone, Copy)]
+pub enum Code {
+    // Brightness.
+    Brightness = 0x10,
+    // Contrast.
+    Contrast = 0x12,
+    // The input.
+    Input = 0x60,
+    // Degauss. It is momentary: it acts once and keeps no value.
+    Degauss = 0x01,
+}
 
-// The code of contrast.
-pub const CONTRAST: u8 = 0x12;
+impl From<Code> for u8 {
+    // Returns the number of a code.
+    fn from(code: Code) -> u8 {
+        code as u8
+    }
+}
 
-// The code of the input.
-pub const INPUT: u8 = 0x60;
-
-// The code of degauss. It is momentary: it acts once and keeps no value.
-pub const DEGAUSS: u8 = 0x01;
-
-// The width of a code's name, with the spaces behind it.
-const NAME: usize = 12;
-
-// Returns where a code's name stands in the list of names.
-fn column(code: u8) -> usize {
+// Returns the name of a code, with spaces behind it up to the width of its column.
+fn name(code: Code) -> &'static [u8] {
     match code {
-        BRIGHTNESS => 0,
-        CONTRAST => NAME,
-        INPUT => NAME * 2,
-        _ => NAME * 3,
+        Code::Brightness => b"brightness  ",
+        Code::Contrast => b"contrast    ",
+        Code::Input => b"input       ",
+        Code::Degauss => b"degauss     ",
     }
 }
 
 // Writes a code by its name, and a value of it.
-fn value_of(what: &[u8], code: u8, value: u16) {
-    let names = b"brightness  contrast    input       degauss     ";
+fn value_of(what: &[u8], code: Code, value: u16) {
     show::text(OUT, what);
-    show::text(OUT, front(behind(names, column(code)), NAME));
-    show::number(OUT, value as u64, 3);
+    show::text(OUT, name(code));
+    show::number(OUT, u64::from(value), 3);
 }
 
 // Writes what came of a display's start, and of the declaring of its codes.
 pub fn started(number: u64, size: u16, started: u8, declared: u8) {
     line(
         b"  display #, which sends fragments of # bytes",
-        &[number, size as u64],
+        &[number, u64::from(size)],
     );
     show::answered(OUT, b": ", started);
     show::answered(
@@ -50,10 +54,10 @@ pub fn started(number: u64, size: u16, started: u8, declared: u8) {
 }
 
 // Writes what came of the writing of the call list.
-pub fn written(writes: usize, messages: u64, stored: usize, same: bool) {
+pub fn written(writes: usize, messages: usize, stored: usize, same: bool) {
     line(
         b"    # writes, every third delivered twice: # messages; # bytes stored; ",
-        &[writes as u64, messages, stored as u64],
+        &[writes as u64, messages as u64, stored as u64],
     );
     show::compared(OUT, b"beside the tent's list: ", same);
 }
@@ -65,13 +69,13 @@ pub fn settings(count: usize, answer: u8) {
 }
 
 // Writes what came of a Set.
-pub fn set(code: u8, value: u16, answer: u8) {
+pub fn set(code: Code, value: u16, answer: u8) {
     value_of(b"    Set ", code, value);
     show::answered(OUT, b":  ", answer);
 }
 
 // Writes the value that a Get found.
-pub fn get(code: u8, value: u16) {
+pub fn get(code: Code, value: u16) {
     value_of(b"    Get ", code, value);
     show::text(OUT, b"\n");
 }

@@ -1,5 +1,6 @@
 -- The exported calls follow the rules' calls, since the phase of a text and a state names both; so demand 3 holds of them. What is refused at the start stays closed.
 -- Assumes nothing.
+use Rattle.std.specs.Prelude.{Option, Some, None}
 use Prim.Native.Nat.{ℕ, ◌/◌, ◌%◌}
 use mathlib.Core.Path.{◌≡◌, refl, ap, ap₂, sym, ◌∙◌, subst}
 use mathlib.Core.List.{List, [], ◌∷◌}
@@ -10,19 +11,16 @@ use lib.Dec.{ltb, leb}
 use Rattle.message_rules.specs.declared.TextKind.{TextKind}
 use Rattle.message_rules.specs.declared.TextKind.TheVariants.{Capabilities, Table}
 use Rattle.transfer_rules.specs.Transfer as rules
-use Rattle.transfer_rules.specs.Transfer.{is_running, is_open}
+use Rattle.transfer_rules.specs.Transfer.{BeginOutcome, is_running, is_open}
 use Rattle.transfer_rules.specs.Limits.{most_budget}
 use Rattle.transfer_rules.specs.Exchange as over
 use Rattle.transfer_rules.specs.Exchange.{World, Exchange, after, after_all}
 use Rattle.transfer_rules.specs.Demand3.{start_of, Demand3}
 use Rattle.transfer_rules.proofs.Demand3.{demand3}
-use Rattle.transfer_rules.specs.declared.Begun.{Begun}
 use Rattle.transfer_rules.specs.declared.State.{State}
 use Rattle.transfer_rules.specs.declared.State.TheVariants.{Running, Done, Exhausted, Overflowed}
 use Rattle.transfer_rules.specs.declared.Transfer.{Transfer}
 use Rattle.ddcci.specs.declared.transfers.TransferNumbers.{TransferNumbers}
-use Rattle.ddcci.specs.declared.transfers.TextNumber.{TextNumber}
-use Rattle.ddcci.specs.declared.transfers.TextNumber.TheVariants.{Known, Unknown}
 use Rattle.ddcci.specs.Transfers.{state_of, text_number, text_of, phase_number, by_text, numbers_of, transfer_of, began_numbers, unknown_text, begin_numbers, request_outcome, Received, received_numbers, unmoved, receive_numbers}
 use Rattle.ddcci.specs.Follow.{HeaderFields, HeaderNumbers, Closed, RefusedIsClosed, zeroes, ClosedStays, Follows, receive_all, Shows, InARow, DoneHolds, stands_for, begun, received, exported}
 
@@ -42,7 +40,7 @@ header_numbers = record { capabilities = (refl, refl, refl, refl); table = (refl
 
 -- ---- the transfer that numbers stand for
 
-text-back : (k : TextKind) (s : State) → text_of (phase_number k s / 4) ≡ Known k
+text-back : (k : TextKind) (s : State) → text_of (phase_number k s / 4) ≡ Some k
 text-back Capabilities Running = refl
 text-back Capabilities Done = refl
 text-back Capabilities Exhausted = refl
@@ -68,7 +66,7 @@ back t a = ap (λ (s : State). record { kind = t.kind; state = s; reached = t.re
 -- what is made of the numbers of a transfer, by their text
 by_its_text : {A : Type 0} (t : Transfer) (a : ℕ) (f : Transfer → A) (other : A) → by_text (text_of ((numbers_of t a).phase / 4)) (λ k. f (transfer_of k (numbers_of t a))) other ≡ f t
 by_its_text t a f other =
-    ap (λ (x : TextNumber). by_text x (λ k. f (transfer_of k (numbers_of t a))) other) (text-back t.kind t.state)
+    ap (λ (x : Option TextKind). by_text x (λ k. f (transfer_of k (numbers_of t a))) other) (text-back t.kind t.state)
     ∙ ap f (back t a)
 
 pub follows : Follows
@@ -125,7 +123,7 @@ done-holds s y es n c h =
 
 exported-begin : (k : TextKind) (size budget : ℕ) → begun (begin_numbers (text_number k) size budget) ≡ rules.begin k size budget
 exported-begin k size budget =
-    let b : Begun = rules.begin k size budget in
+    let b : BeginOutcome = rules.begin k size budget in
     ap begun (follows.begin k size budget) ∙ ap (λ (x : Transfer). record { answer = b.answer; transfer = x }) (stands b.transfer b.answer)
 
 exported-receive : (t : Transfer) (buffer came : List ℕ) → received (receive_numbers (numbers_of t 0) buffer came) ≡ rules.receive t buffer came
@@ -152,19 +150,19 @@ exhausted_phase Table s e = ap (λ (x : State). phase_number Table x % 4) e
 pub refused-is-closed : RefusedIsClosed begin_numbers
 refused-is-closed kind size budget h = go (text_of kind) h
   where
-    accepted : TextKind → Begun
+    accepted : TextKind → BeginOutcome
     accepted t = record { answer = 0; transfer = record { kind = t; state = rules.first_state budget; reached = record { 0 = 0 }; capacity = size; budget = budget; count = 0 } }
 
-    refused : TextKind → Begun
+    refused : TextKind → BeginOutcome
     refused t = record { answer = 18; transfer = record { kind = t; state = Exhausted; reached = record { 0 = 0 }; capacity = 0; budget = 0; count = 0 } }
 
     begun-closed : (t : TextKind) (x : Bool) → let b = cond x (accepted t) (refused t) in (b.answer ≡ 0 → ⊥) → Closed (began_numbers b)
     begun-closed t true h = absurd (h refl)
     begun-closed t false h = record { state = exhausted_phase t Exhausted refl; capacity = refl; offset = refl; budget = refl; count = refl }
 
-    go : (x : TextNumber) → let n = by_text x (λ t. began_numbers (rules.begin t size budget)) unknown_text in (n.answer ≡ 0 → ⊥) → Closed n
-    go (Known t) h = begun-closed t (leb budget most_budget) h
-    go Unknown h = record { state = refl; capacity = refl; offset = refl; budget = refl; count = refl }
+    go : (x : Option TextKind) → let n = by_text x (λ t. began_numbers (rules.begin t size budget)) unknown_text in (n.answer ≡ 0 → ⊥) → Closed n
+    go (Some t) h = begun-closed t (leb budget most_budget) h
+    go None h = record { state = refl; capacity = refl; offset = refl; budget = refl; count = refl }
 
 pub zeroes-closed : Closed zeroes
 zeroes-closed = record { state = refl; capacity = refl; offset = refl; budget = refl; count = refl }
@@ -176,17 +174,17 @@ module _ (n : TransferNumbers) (s : Closed n) where
   not_open : (t : TextKind) → is_open (transfer_of t n) ≡ false
   not_open t = ap (λ (x : State). is_running x && ltb n.count n.budget) is_exhausted
 
-  asks_nothing : (out : List ℕ) (x : TextNumber) →
+  asks_nothing : (out : List ℕ) (x : Option TextKind) →
       let o = by_text x (λ t. rules.request (transfer_of t n) out) (record { answer = 6; len = 0; output = out }) in (o.answer ≡ 0 → ⊥) × (o.output ≡ out)
-  asks_nothing out (Known t) = rw (not_open t) ((λ e. omega (arith, e)), refl)
-  asks_nothing out Unknown = ((λ e. omega (arith, e)), refl)
+  asks_nothing out (Some t) = rw (not_open t) ((λ e. omega (arith, e)), refl)
+  asks_nothing out None = ((λ e. omega (arith, e)), refl)
 
-  stays_closed : (buffer came : List ℕ) (x : TextNumber) →
+  stays_closed : (buffer came : List ℕ) (x : Option TextKind) →
       let r = by_text x (λ t. received_numbers (rules.receive (transfer_of t n) buffer came)) (record { numbers = unmoved n; buffer = buffer }) in Closed r.numbers × (r.buffer ≡ buffer)
-  stays_closed buffer came (Known t) =
+  stays_closed buffer came (Some t) =
       rw (not_open t)
       (record { state = exhausted_phase t (state_of (n.phase % 4)) is_exhausted; capacity = s.capacity; offset = s.offset; budget = s.budget; count = s.count }, refl)
-  stays_closed buffer came Unknown = (record { state = s.state; capacity = s.capacity; offset = s.offset; budget = s.budget; count = s.count }, refl)
+  stays_closed buffer came None = (record { state = s.state; capacity = s.capacity; offset = s.offset; budget = s.budget; count = s.count }, refl)
 
 pub closed-stays : ClosedStays request_outcome receive_numbers
 closed-stays = record { asks = λ n s out. asks_nothing n s out (text_of (n.phase / 4)); stays = λ n s buffer came. stays_closed n s buffer came (text_of (n.phase / 4)) }

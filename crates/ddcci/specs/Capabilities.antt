@@ -1,8 +1,7 @@
 -- The answer of the exported capabilities reader, as numbers.
 use Rattle.std.specs.Prelude.{ℕ, ◌≡◌, List}
-use Rattle.capabilities_rules.specs.Outcome.{told}
+use Rattle.capabilities_rules.specs.Outcome.{told, Reading}
 use Rattle.capabilities_rules.specs.Buffers.{Buffers, Answered}
-use Rattle.capabilities_rules.specs.declared.Reading.{Reading}
 use Rattle.ddcci.specs.declared.capability.ReadingNumbers.{ReadingNumbers}
 
 -- document 01's number and values of each case

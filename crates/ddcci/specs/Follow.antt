@@ -4,11 +4,10 @@ use Rattle.std.specs.Prelude.{ℕ, ◌/◌, ◌%◌, ◌≡◌, List, [], ◌∷
 use Rattle.message_rules.specs.declared.TextKind.{TextKind}
 use Rattle.message_rules.specs.declared.TextKind.TheVariants.{Capabilities, Table}
 use Rattle.transfer_rules.specs.Transfer as rules
-use Rattle.transfer_rules.specs.Transfer.{RequestOutcome, ReceiveOutcome}
+use Rattle.transfer_rules.specs.Transfer.{BeginOutcome, RequestOutcome, ReceiveOutcome}
 use Rattle.transfer_rules.specs.Exchange.{Calls, World, Exchange, after_all}
 use Rattle.transfer_rules.specs.Exchange.{rules as ours}
 use Rattle.transfer_rules.specs.Demand3.{Setup, Supposed, start_of, CourseOf}
-use Rattle.transfer_rules.specs.declared.Begun.{Begun}
 use Rattle.transfer_rules.specs.declared.State.{State}
 use Rattle.transfer_rules.specs.declared.State.TheVariants.{Running, Done, Exhausted, Overflowed}
 use Rattle.transfer_rules.specs.declared.Transfer.{Transfer}
@@ -90,7 +89,7 @@ DoneHolds = (s : Setup) → Supposed s → (es : List Exchange) (n : ℕ) → Co
 abbrev pub stands_for : TransferNumbers → Transfer
 stands_for n = by_text (text_of (n.phase / 4)) (λ k. transfer_of k n) (transfer_of Capabilities n)
 
-abbrev pub begun : TransferNumbers → Begun
+abbrev pub begun : TransferNumbers → BeginOutcome
 begun n = record { answer = n.answer; transfer = stands_for n }
 
 abbrev pub received : Received → ReceiveOutcome

@@ -1,18 +1,15 @@
 -- A transfer as numbers, and the answers of the exported calls from those of the transfer's rules.
-use Rattle.std.specs.Prelude.{ℕ, ◌+◌, ◌/◌, ◌%◌, ◌≡◌, cond, List, eqb}
+use Rattle.std.specs.Prelude.{ℕ, ◌+◌, ◌/◌, ◌%◌, ◌≡◌, cond, List, Option, Some, None, eqb}
 use Rattle.message_rules.specs.Answer.{unknown_command}
 use Rattle.message_rules.specs.declared.TextKind.{TextKind}
 use Rattle.message_rules.specs.declared.TextKind.TheVariants.{Capabilities, Table}
 use Rattle.transfer_rules.specs.Transfer as rules
-use Rattle.transfer_rules.specs.Transfer.{RequestOutcome, ReceiveOutcome}
-use Rattle.transfer_rules.specs.declared.Begun.{Begun}
+use Rattle.transfer_rules.specs.Transfer.{BeginOutcome, RequestOutcome, ReceiveOutcome}
 use Rattle.transfer_rules.specs.declared.State.{State}
 use Rattle.transfer_rules.specs.declared.State.TheVariants.{Running, Done, Exhausted, Overflowed}
 use Rattle.transfer_rules.specs.declared.Transfer.{Transfer}
 use Rattle.ddcci.specs.declared.BuiltNumbers.{BuiltNumbers}
 use Rattle.ddcci.specs.declared.transfers.TransferNumbers.{TransferNumbers}
-use Rattle.ddcci.specs.declared.transfers.TextNumber.{TextNumber}
-use Rattle.ddcci.specs.declared.transfers.TextNumber.TheVariants.{Known, Unknown}
 
 -- ---- states and texts as numbers
 
@@ -33,8 +30,8 @@ text_number Capabilities = 0
 text_number Table = 1
 
 -- the text that a number names
-abbrev pub text_of : ℕ → TextNumber
-text_of n = cond (eqb n (text_number Capabilities)) (Known Capabilities) (cond (eqb n (text_number Table)) (Known Table) Unknown)
+abbrev pub text_of : ℕ → Option TextKind
+text_of n = cond (eqb n (text_number Capabilities)) (Some Capabilities) (cond (eqb n (text_number Table)) (Some Table) None)
 
 -- a text and its state in one number: 4 times the text's number, and the state's
 abbrev pub first_phase : TextKind → ℕ
@@ -45,9 +42,9 @@ abbrev pub phase_number : TextKind → State → ℕ
 phase_number k s = first_phase k + state_number s
 
 -- by the text, or other where there is none
-abbrev pub by_text : {A : Type 0} → TextNumber → (TextKind → A) → A → A
-by_text (Known t) f other = f t
-by_text Unknown f other = other
+abbrev pub by_text : {A : Type 0} → Option TextKind → (TextKind → A) → A → A
+by_text (Some t) f other = f t
+by_text None f other = other
 
 abbrev pub numbers_of : Transfer → (answer : ℕ) → TransferNumbers
 numbers_of t answer = record {
@@ -64,7 +61,7 @@ transfer_of k n = record { kind = k; state = state_of (n.phase % 4); reached = r
 
 -- ---- the calls
 
-abbrev pub began_numbers : Begun → TransferNumbers
+abbrev pub began_numbers : BeginOutcome → TransferNumbers
 began_numbers b = numbers_of b.transfer b.answer
 
 -- the transfer of an unknown text, whose number is refused as an unknown command is, 6. "A refused start gives .. a spent run of room 0":

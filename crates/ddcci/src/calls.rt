@@ -1,14 +1,16 @@
 // The gate check of call lists for Rust and C.
 ghost use Rattle.std.specs.Prelude.{◌≡◌};
-ghost use Rattle.call_list_rules.specs.CallList.{check_list, find_household, entry_of};
+ghost use Rattle.call_list_rules.specs.CallList.{check_list, found_as, find_household, entry_of};
 ghost use Rattle.ddcci.specs.Calls.{household_numbers};
 
-use call_list_rules::{Checked, Entry, EntryNumber, Found};
-use message_rules::answer;
+use call_list_rules::{Checked, Entry, EntryNumber};
+use message_rules::refusal::RefusedAt;
+use message_rules::{Position, answer};
 
-// What a query for a household returns.
+// What a query for a household returns, as C reads it.
+// Numbers with an answer number beside, not a Result: C takes this struct as it is.
 #[repr(C)]
-#[derive(Clone, Copy)]
+#[derive(Clone, Copy, PartialEq, Eq)]
 pub struct HouseholdNumbers {
     // The answer number.
     pub answer: u8,
@@ -21,27 +23,27 @@ pub struct HouseholdNumbers {
 }
 
 // Returns what a query found as numbers.
-fn household_numbers(found: Found) -> HouseholdNumbers
-    ensures { result ≡ household_numbers found }
+fn household_numbers(found: Result<Option<EntryNumber>, RefusedAt>) -> HouseholdNumbers
+    ensures { result ≡ household_numbers (found_as found) }
 {
     match found {
-        Found::At(entry) => HouseholdNumbers {
+        Ok(Some(entry)) => HouseholdNumbers {
             answer: answer::DONE,
             there: 1,
             number: entry.0,
             position: 0,
         },
-        Found::Absent => HouseholdNumbers {
+        Ok(None) => HouseholdNumbers {
             answer: answer::DONE,
             there: 0,
             number: 0,
             position: 0,
         },
-        Found::Refused(number, at) => HouseholdNumbers {
-            answer: number,
+        Err(refused) => HouseholdNumbers {
+            answer: u8::from(refused.refusal),
             there: 0,
             number: 0,
-            position: at.0,
+            position: refused.position.0,
         },
     }
 }
@@ -51,7 +53,18 @@ fn household_numbers(found: Found) -> HouseholdNumbers
 pub fn ddcci_check_call_list(list: &[u8]) -> Checked
     ensures { result ≡ check_list list.now }
 {
-    call_list::check(list)
+    match call_list::check(list) {
+        Ok(entries) => Checked {
+            answer: answer::DONE,
+            entries,
+            position: Position(list.len()),
+        },
+        Err(refused) => Checked {
+            answer: u8::from(refused.refusal),
+            entries: 0,
+            position: refused.position,
+        },
+    }
 }
 
 // Finds a household in a call list.

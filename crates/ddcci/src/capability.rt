@@ -1,12 +1,14 @@
 // The capabilities reader for Rust and C.
 ghost use Rattle.std.specs.Prelude.{◌≡◌};
 ghost use Rattle.capabilities_rules.specs.Buffers.{buffers};
+ghost use Rattle.capabilities_rules.specs.Outcome.{reading_of};
 ghost use Rattle.ddcci.specs.Capabilities.{reading_numbers, ReadsNumbers};
 
-use capabilities_rules::Reading;
 use message_rules::answer;
+use message_rules::refusal::RefusedAt;
 
 // What reading a capabilities string returns.
+// Numbers, not a Result: C takes this struct as it is.
 #[repr(C)]
 #[derive(Clone, Copy)]
 pub struct ReadingNumbers {
@@ -18,27 +20,30 @@ pub struct ReadingNumbers {
     pub position: usize,
 }
 
-// Returns a reading as numbers.
-fn reading_numbers(reading: Reading) -> ReadingNumbers
-    ensures { result ≡ reading_numbers reading }
-{
-    match reading {
-        Reading::Accepted(nodes) => ReadingNumbers {
-            answer: answer::DONE,
-            nodes: nodes,
-            position: 0,
-        },
-        Reading::Refused(number, at) => ReadingNumbers {
-            answer: number,
-            nodes: 0,
-            position: at.0,
-        },
+impl From<Result<usize, RefusedAt>> for ReadingNumbers {
+    ghost from_gives = { λ r n. n ≡ reading_numbers (reading_of r) };
+
+    // Returns a reading as numbers.
+    fn from(reading: Result<usize, RefusedAt>) -> ReadingNumbers {
+        match reading {
+            Ok(nodes) => ReadingNumbers {
+                answer: answer::DONE,
+                nodes,
+                position: 0,
+            },
+            Err(at) => ReadingNumbers {
+                answer: u8::from(at.refusal),
+                nodes: 0,
+                position: at.position.0,
+            },
+        }
     }
 }
 
 // Reads a capabilities string into four buffers, one entry a node in each.
 // Returns the answer, and the number of nodes or the position that is refused.
 // A string that is refused leaves the buffers as they were.
+// Four slices, not a struct of them: C calls this function as it is.
 pub fn ddcci_read_capabilities(
     text: &[u8],
     starts: &mut [u16],
@@ -48,5 +53,5 @@ pub fn ddcci_read_capabilities(
 ) -> ReadingNumbers
     ensures { ReadsNumbers text.now (buffers starts.old lengths.old parents.old groups.old) (buffers starts.new lengths.new parents.new groups.new) result }
 {
-    reading_numbers(capabilities_reader::read(text, starts, lengths, parents, groups))
+    ReadingNumbers::from(capabilities_reader::read(text, starts, lengths, parents, groups))
 }

@@ -13,10 +13,11 @@ ghost use Rattle.std.specs.Prelude.{◌≡◌};
 ghost use Rattle.checksum.specs.Xor.{xor_all};
 ghost use Rattle.ddcci.specs.Numbers.{built_numbers};
 
-use message_output::Built;
 use message_rules::answer;
+use message_rules::refusal::Refusal;
 
 // What a builder returns.
+// Numbers, not a Result: C takes this struct as it is.
 #[repr(C)]
 #[derive(Clone, Copy)]
 pub struct BuiltNumbers {
@@ -27,15 +28,18 @@ pub struct BuiltNumbers {
 }
 
 // Returns what a builder returned as numbers.
-pub(crate) fn built_numbers(built: Built) -> BuiltNumbers
+pub(crate) fn built_numbers(built: Result<usize, Refusal>) -> BuiltNumbers
     ensures { result ≡ built_numbers built }
 {
     match built {
-        Built::Done(length) => BuiltNumbers {
+        Ok(len) => BuiltNumbers {
             answer: answer::DONE,
-            len: length,
+            len,
         },
-        Built::Refused(k) => BuiltNumbers { answer: k, len: 0 },
+        Err(refusal) => BuiltNumbers {
+            answer: u8::from(refusal),
+            len: 0,
+        },
     }
 }
 

@@ -6,10 +6,13 @@ ghost use Rattle.message_rules.specs.Message.{replies, to_host, null, value, tim
 ghost use Rattle.ddcci.specs.Numbers.{field_numbers, fragment_numbers, reply_numbers, BuildsNumbers, BuildsMessageNumbers, ReadsReply};
 
 use crate::BuiltNumbers;
-use message_reply_reader::{ReplyRead, is_null, read_reply};
-use message_rules::{TO_HOST, TextOffset, answer};
+use message_frame::Carried;
+use message_reply_reader::{ReplyRead, read_display_reply};
+use message_rules::refusal::Refusal;
+use message_rules::{TO_HOST, TextKind, TextOffset, answer};
 
 // What reading a reply returns. What a message does not have is 0.
+// Numbers, not a Result: C takes this struct as it is.
 #[repr(C)]
 #[derive(Clone, Copy)]
 pub struct ReplyNumbers {
@@ -34,19 +37,19 @@ pub struct ReplyNumbers {
 }
 
 // Returns the numbers of a fragment: its command number, its offset, and where its data stand.
-fn fragment_numbers(command: u8, offset: u16, position: usize, length: usize) -> ReplyNumbers
-    ensures { result ≡ fragment_numbers command offset position length }
+fn fragment_numbers(command: u8, data: Carried) -> ReplyNumbers
+    ensures { result ≡ fragment_numbers command «data».offset.0 «data».at.0 «data».len }
 {
     ReplyNumbers {
         answer: answer::DONE,
-        command: command,
+        command,
         status: 0,
         code: 0,
         kind: 0,
-        first: offset,
+        first: data.offset.0,
         second: 0,
-        position: position,
-        len: length,
+        position: data.at.0,
+        len: data.len,
     }
 }
 
@@ -64,49 +67,51 @@ fn field_numbers(
 {
     ReplyNumbers {
         answer: number,
-        command: command,
-        status: status,
-        code: code,
-        kind: kind,
-        first: first,
-        second: second,
+        command,
+        status,
+        code,
+        kind,
+        first,
+        second,
         position: 0,
         len: 0,
     }
 }
 
 // Returns a reply that was read, or its refusal, as numbers.
-fn reply_numbers(read: ReplyRead) -> ReplyNumbers
+fn reply_numbers(read: Result<ReplyRead, Refusal>) -> ReplyNumbers
     ensures { result ≡ reply_numbers read }
 {
     match read {
-        ReplyRead::Value {
-            result,
-            code,
-            kind,
-            max,
-            present,
-        } => field_numbers(answer::DONE, 0x02, result, code, kind, max, present),
-        ReplyRead::Timing {
-            status,
-            horizontal,
-            vertical,
-        } => field_numbers(answer::DONE, 0x4E, status, 0, 0, horizontal, vertical),
-        ReplyRead::TextFragment { offset, at, len } => fragment_numbers(0xE3, offset.0, at.0, len),
-        ReplyRead::TableFragment { offset, at, len } => fragment_numbers(0xE4, offset.0, at.0, len),
-        ReplyRead::Refused(k) => field_numbers(k, 0, 0, 0, 0, 0, 0),
+        Ok(
+            ReplyRead::Value {
+                result,
+                code,
+                kind,
+                max,
+                present,
+            },
+        ) => field_numbers(answer::DONE, 0x02, result, code, kind, max, present),
+        Ok(
+            ReplyRead::Timing {
+                status,
+                horizontal,
+                vertical,
+            },
+        ) => field_numbers(answer::DONE, 0x4E, status, 0, 0, horizontal, vertical),
+        Ok(ReplyRead::Fragment { kind, data }) => match kind {
+            TextKind::Capabilities => fragment_numbers(0xE3, data),
+            TextKind::Table => fragment_numbers(0xE4, data),
+        },
+        Err(refusal) => field_numbers(u8::from(refusal), 0, 0, 0, 0, 0, 0),
     }
 }
 
 // Returns the fields of a reply to the host, or the answer that refuses it; the null message is 12.
-// `read_display_reply` does the same, and is not called: a reader that only one function uses is inlined into it.
 pub fn ddcci_read_reply(message: &[u8]) -> ReplyNumbers
     ensures { ReadsReply message.now result }
 {
-    if is_null(message) {
-        return reply_numbers(ReplyRead::Refused(answer::NULL_MESSAGE));
-    }
-    reply_numbers(read_reply(TO_HOST, message))
+    reply_numbers(read_display_reply(message))
 }
 
 // Builds a Value: result, code, type, maximum and present value.

@@ -7,9 +7,11 @@ ghost use Rattle.ddcci.specs.Numbers.{request_fields, request_numbers, BuildsMes
 
 use crate::BuiltNumbers;
 use message_request_reader::{RequestRead, read_request};
+use message_rules::refusal::Refusal;
 use message_rules::{TO_DISPLAY, TextOffset, answer};
 
 // What reading a request returns. What a message does not have is 0.
+// Numbers, not a Result: C takes this struct as it is.
 #[repr(C)]
 #[derive(Clone, Copy)]
 pub struct RequestNumbers {
@@ -33,40 +35,35 @@ fn message_numbers(command: u8, code: u8, word: u16) -> RequestNumbers
 {
     RequestNumbers {
         answer: answer::DONE,
-        command: command,
-        code: code,
-        word: word,
+        command,
+        code,
+        word,
         position: 0,
         len: 0,
     }
 }
 
 // Returns a request that was read, or its refusal, as numbers.
-fn request_numbers(read: RequestRead) -> RequestNumbers
+fn request_numbers(read: Result<RequestRead, Refusal>) -> RequestNumbers
     ensures { result ≡ request_numbers read }
 {
     match read {
-        RequestRead::Get(code) => message_numbers(0x01, code, 0),
-        RequestRead::Set { code, value } => message_numbers(0x03, code, value),
-        RequestRead::Timing => message_numbers(0x07, 0, 0),
-        RequestRead::Save => message_numbers(0x0C, 0, 0),
-        RequestRead::Text(offset) => message_numbers(0xF3, 0, offset.0),
-        RequestRead::TableRead { code, offset } => message_numbers(0xE2, code, offset.0),
-        RequestRead::TableWrite {
-            code,
-            offset,
-            at,
-            len,
-        } => RequestNumbers {
+        Ok(RequestRead::Get(code)) => message_numbers(0x01, code, 0),
+        Ok(RequestRead::Set { code, value }) => message_numbers(0x03, code, value),
+        Ok(RequestRead::Timing) => message_numbers(0x07, 0, 0),
+        Ok(RequestRead::Save) => message_numbers(0x0C, 0, 0),
+        Ok(RequestRead::Text(offset)) => message_numbers(0xF3, 0, offset.0),
+        Ok(RequestRead::TableRead { code, offset }) => message_numbers(0xE2, code, offset.0),
+        Ok(RequestRead::TableWrite { code, data }) => RequestNumbers {
             answer: answer::DONE,
             command: 0xE7,
-            code: code,
-            word: offset.0,
-            position: at.0,
-            len: len,
+            code,
+            word: data.offset.0,
+            position: data.at.0,
+            len: data.len,
         },
-        RequestRead::Refused(k) => RequestNumbers {
-            answer: k,
+        Err(refusal) => RequestNumbers {
+            answer: u8::from(refusal),
             command: 0,
             code: 0,
             word: 0,

@@ -1,14 +1,14 @@
 // Transfers for Rust and C: a transfer's state as numbers.
 // A state that no call has made is judged like any other, never trusted.
-ghost use Rattle.std.specs.Prelude.{◌≡◌, ◌<◌, length};
-ghost use Rattle.ddcci.specs.Transfers.{state_of, text_of, state_number, first_phase, phase_number, transfer_of, numbers_of, begin_numbers, request_outcome, receive_numbers, received_numbers, Requests, Receives};
-ghost use Rattle.transfer_rules.specs.Transfer as rules;
+ghost use Rattle.std.specs.Prelude.{◌≡◌, length};
+ghost use Rattle.ddcci.specs.Transfers.{state_of, text_of, phase_number, transfer_of, numbers_of, begin_numbers, request_outcome, receive_numbers, Requests, Receives};
 
-use crate::BuiltNumbers;
-use message_rules::{TextKind, TextOffset, answer};
+use crate::{BuiltNumbers, built_numbers};
+use message_rules::{TextKind, TextOffset, answer, refusal};
 use transfer_rules::{State, Transfer};
 
 // A transfer. Zeros are a closed one.
+// Numbers, with the answer among them: C takes this struct as it is.
 // It has sixteen bytes in all, so that it goes in and out in registers.
 #[repr(C)]
 #[derive(Clone, Copy)]
@@ -28,13 +28,15 @@ pub struct TransferNumbers {
     pub answer: u8,
 }
 
-// The first phase of the table, which is how many states there are.
-const TABLE_PHASES: u8 = 4;
+// How many states there are: the phases of a text begin at its number times this.
+const STATES: u8 = 4;
 
 // The phase of a transfer whose text is unknown: exhausted, and of no text.
+// A number, not an Option: the struct for C has one byte for text and state.
 const NO_PHASE: u8 = 8;
 
 // Returns the state that a number stands for. A number above 3 is no state that runs.
+// No TryFrom: every number is judged, also one that no call makes.
 fn state_of(number: u8) -> State
     ensures { result ≡ state_of number }
 {
@@ -42,56 +44,27 @@ fn state_of(number: u8) -> State
         0 => State::Exhausted,
         1 => State::Running,
         2 => State::Done,
-        3..=255 => State::Overflowed,
-    }
-}
-
-// Returns the number of a state.
-fn state_number(state: State) -> u8
-    ensures { (result ≡ state_number state) × (result < 4) }
-{
-    match state {
-        State::Exhausted => 0,
-        State::Running => 1,
-        State::Done => 2,
-        State::Overflowed => 3,
-    }
-}
-
-// Returns the first phase of a text: 4 times its number.
-fn first_phase(kind: TextKind) -> u8
-    ensures { (result ≡ first_phase kind) × (result < 5) }
-{
-    match kind {
-        TextKind::Capabilities => 0,
-        TextKind::Table => TABLE_PHASES,
+        _ => State::Overflowed,
     }
 }
 
 // Returns the phase of a transfer of this text in this state.
+// Texts and states stand in their enums in the order of their numbers.
 fn phase_number(kind: TextKind, state: State) -> u8
     ensures { result ≡ phase_number kind state }
 {
-    first_phase(kind) + state_number(state)
+    kind as u8 * STATES + state as u8
 }
 
-// The text that a number names.
-#[derive(Clone, Copy)]
-enum TextNumber {
-    // The number names this text.
-    Known(TextKind),
-    // The number names none.
-    Unknown,
-}
-
-// Returns the text that a number names: 0 the capabilities string, 1 the table.
-fn text_of(number: u8) -> TextNumber
+// Returns the text that a number names: 0 the capabilities string, 1 the table; none, where it names no text.
+// No TryFrom: a number that names no text gets its answer from the caller.
+fn text_of(number: u8) -> Option<TextKind>
     ensures { result ≡ text_of number }
 {
     match number {
-        0 => TextNumber::Known(TextKind::Capabilities),
-        1 => TextNumber::Known(TextKind::Table),
-        2..=255 => TextNumber::Unknown,
+        0 => Some(TextKind::Capabilities),
+        1 => Some(TextKind::Table),
+        _ => None,
     }
 }
 
@@ -99,10 +72,9 @@ fn text_of(number: u8) -> TextNumber
 fn transfer_of(kind: TextKind, n: TransferNumbers) -> Transfer
     ensures { result ≡ transfer_of kind n }
 {
-    let state = state_of(n.phase % TABLE_PHASES);
     Transfer {
-        kind: kind,
-        state: state,
+        kind,
+        state: state_of(n.phase % STATES),
         reached: TextOffset(n.offset),
         capacity: n.capacity,
         budget: n.budget,
@@ -114,15 +86,13 @@ fn transfer_of(kind: TextKind, n: TransferNumbers) -> Transfer
 fn numbers_of(t: Transfer, answer: u8) -> TransferNumbers
     ensures { result ≡ numbers_of t answer }
 {
-    let kind = t.kind;
-    let state = t.state;
     TransferNumbers {
         capacity: t.capacity,
         offset: t.reached.0,
         budget: t.budget,
         count: t.count,
-        phase: phase_number(kind, state),
-        answer: answer,
+        phase: phase_number(t.kind, t.state),
+        answer,
     }
 }
 
@@ -131,32 +101,19 @@ fn numbers_of(t: Transfer, answer: u8) -> TransferNumbers
 pub fn ddcci_begin(kind: u8, buffer: &[u8], budget: usize) -> TransferNumbers
     ensures { result ≡ begin_numbers kind (length buffer.now) budget }
 {
-    match text_of(kind) {
-        TextNumber::Known(text) => {
-            let begun = transfer::begin(text, buffer, budget);
-            numbers_of(begun.transfer, begun.answer)
-        }
-        TextNumber::Unknown => TransferNumbers {
+    let Some(text) = text_of(kind) else {
+        return TransferNumbers {
             capacity: 0,
             offset: 0,
             budget: 0,
             count: 0,
             phase: NO_PHASE,
             answer: answer::UNKNOWN_COMMAND,
-        },
-    }
-}
-
-// Builds the request of a transfer of this text.
-// Returns the answer and the request's length.
-fn request_of(kind: TextKind, n: TransferNumbers, out: &mut [u8]) -> BuiltNumbers
-    ensures { Requests (rules.request (transfer_of kind n) out.old) result out.new }
-{
-    let requested = transfer::request(transfer_of(kind, n), out);
-    BuiltNumbers {
-        answer: requested.answer,
-        len: requested.len,
-    }
+        };
+    };
+    let begun = transfer::begin(text, buffer, budget);
+    let answer = refusal::number(&begun);
+    numbers_of(begun.unwrap_or(Transfer::exhausted(text)), answer)
 }
 
 // Builds the request for the offset that the transfer has reached.
@@ -165,27 +122,13 @@ fn request_of(kind: TextKind, n: TransferNumbers, out: &mut [u8]) -> BuiltNumber
 pub fn ddcci_request(n: TransferNumbers, out: &mut [u8]) -> BuiltNumbers
     ensures { Requests (request_outcome n out.old) result out.new }
 {
-    match text_of(n.phase / TABLE_PHASES) {
-        TextNumber::Known(text) => request_of(text, n, out),
-        TextNumber::Unknown => BuiltNumbers {
+    let Some(text) = text_of(n.phase / STATES) else {
+        return BuiltNumbers {
             answer: answer::UNKNOWN_COMMAND,
             len: 0,
-        },
-    }
-}
-
-// Receives the bytes that came back, for a transfer of this text.
-// Returns the transfer afterwards, with the answer in it.
-fn receive_of(
-    kind: TextKind,
-    n: TransferNumbers,
-    buffer: &mut [u8],
-    reply: &[u8],
-) -> TransferNumbers
-    ensures { Receives (received_numbers (rules.receive (transfer_of kind n) buffer.old reply.now)) result buffer.new }
-{
-    let received = transfer::receive(transfer_of(kind, n), buffer, reply);
-    numbers_of(received.transfer, received.answer)
+        };
+    };
+    built_numbers(transfer::request(transfer_of(text, n), out))
 }
 
 // Receives the bytes that came back, with the buffer that the transfer was begun with.
@@ -194,12 +137,12 @@ fn receive_of(
 pub fn ddcci_receive(n: TransferNumbers, buffer: &mut [u8], reply: &[u8]) -> TransferNumbers
     ensures { Receives (receive_numbers n buffer.old reply.now) result buffer.new }
 {
-    match text_of(n.phase / TABLE_PHASES) {
-        TextNumber::Known(text) => receive_of(text, n, buffer, reply),
-        TextNumber::Unknown => {
-            let mut refused = n;
-            refused.answer = answer::UNKNOWN_COMMAND;
-            refused
-        }
-    }
+    let Some(text) = text_of(n.phase / STATES) else {
+        return TransferNumbers {
+            answer: answer::UNKNOWN_COMMAND,
+            ..n
+        };
+    };
+    let received = transfer::receive(transfer_of(text, n), buffer, reply);
+    numbers_of(received.transfer, refusal::number(&received.answer))
 }

@@ -1,4 +1,5 @@
 // The library `ddcci` for C and Rust: each function under its own name, with the library's contract.
+// Each repeats the library's signature and clauses, since a crate is a library or an archive for C, not both.
 // include/ddcci.h declares them.
 #![tactic(auto)]
 

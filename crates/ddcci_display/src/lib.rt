@@ -11,7 +11,6 @@ ghost use Rattle.set_all_rules.specs.SetAll.{display_set_all};
 ghost use Rattle.display_asked.specs.Asked.{asked_of};
 ghost use Rattle.ddcci_display.specs.Numbers.{code_number, loaded_numbers};
 
-use codes::Next;
 use display_asked::DisplayAsked;
 use display_pending::{Pending, changes};
 use display_rules::{Changed, Display, Stepped};
@@ -20,9 +19,11 @@ use profile_rules::Written;
 use settings_rules::{Declaration, Timing};
 
 // What stands for a code where there is none.
+// A number, not an Option: C takes it as it is.
 pub const NO_CODE: u16 = 256;
 
 // What loading a profile returns.
+// A number beside the display, not a Result: C takes this struct as it is.
 #[repr(C)]
 #[derive(Clone, Copy)]
 pub struct DisplayLoaded {
@@ -62,8 +63,8 @@ pub fn ddcci_display_next_declared(d: Display, from: u16) -> u16
 {
     let next = settings::next_declared(d.settings, from);
     match next {
-        Next::Code(code) => code as u16,
-        Next::Nothing => NO_CODE,
+        Some(code) => code as u16,
+        None => NO_CODE,
     }
 }
 
@@ -87,8 +88,8 @@ pub fn ddcci_display_step(
         Pending::Save => {
             return changes::answered(changes::saved(d), answer::DONE, 0);
         }
-        Pending::Moved(kind, cursor, length) => {
-            return changes::moved(d, kind, cursor, length);
+        Pending::Moved(sent, length) => {
+            return changes::moved(d, sent, length);
         }
         Pending::Written(length) => {
             return changes::answered(changes::written(d, length), answer::DONE, 0);
@@ -147,20 +148,35 @@ pub fn ddcci_display_asked(answer: u8, message: &[u8]) -> DisplayAsked
 pub fn ddcci_display_write_profile(d: Display, out: &mut [u8]) -> Written
     ensures { record { result = result; output = out.new } ≡ write_profile d.settings out.old }
 {
-    profile::write(d.settings, out)
+    match profile::write(d.settings, out) {
+        Ok(len) => Written {
+            answer: answer::DONE,
+            len,
+        },
+        Err(refusal) => Written {
+            answer: u8::from(refusal),
+            len: 0,
+        },
+    }
 }
 
 // Returns the display with a profile's values, present and saved, or the same display and where it was refused.
 pub fn ddcci_display_load_profile(mut d: Display, profile: &[u8]) -> DisplayLoaded
     ensures { result ≡ loaded_numbers d (load_profile d.settings profile.now) }
 {
-    let loaded = profile::load(d.settings, profile);
-    let settings = loaded.settings;
-    let position = loaded.position;
-    d.settings = settings;
-    DisplayLoaded {
-        display: d,
-        answer: loaded.answer,
-        position: position.0,
+    match profile::load(d.settings, profile) {
+        Ok(settings) => {
+            d.settings = settings;
+            DisplayLoaded {
+                display: d,
+                answer: answer::DONE,
+                position: profile.len(),
+            }
+        }
+        Err(at) => DisplayLoaded {
+            display: d,
+            answer: u8::from(at.refusal),
+            position: at.position.0,
+        },
     }
 }

@@ -1,5 +1,6 @@
 // The library `ddcci_display` for C and Rust: each function under its own name, with the library's contract.
 // include/ddcci_display.h declares them.
+// Each repeats the library's signature and clauses, since a crate is a library or an archive for C, not both.
 #![tactic(auto)]
 
 ghost use Rattle.std.specs.Prelude.{◌≡◌, length};

@@ -1,21 +1,17 @@
 -- What the export tells of a message is what the message says.
 -- Assumes nothing.
-use Prim.Native.Nat.{ℕ, ◌+◌, ◌*◌, ◌/◌, ◌%◌, ◌≤◌, ◌<◌}
+use Prim.Native.Nat.{ℕ, ◌+◌, ◌*◌, ◌/◌, ◌%◌}
 use mathlib.Core.Path.{◌≡◌, refl, sym, ap, ◌∙◌}
-use mathlib.Core.Bool.{and-false}
 use mathlib.Core.List.{List}
 use native.Mathlib.Omega.{arith}
-use lib.Dec.{eqb}
-use lib.ListN.{length, get_or}
-use borrow.Author.Tests.{le-leb, lt-leb, eq-eqb, ne_eqb}
+use lib.ListN.{length}
+use borrow.Author.Tests.{le-leb, ne_eqb}
 use Rattle.checksum.specs.Bytes.{Bytes}
 use Rattle.message_rules.specs.Read.{ok}
-use Rattle.message_rules.specs.Layout.{row_of}
-use Rattle.message_rules.specs.declared.Direction.TheVariants as way
 use Rattle.message_rules.specs.Frame.{frame, plain}
 use Rattle.message_rules.specs.Message.{Request, get_feature, set_feature, timing, save, text, table_read, table_write, requests, encode, decode, to_display}
 use Rattle.message_rules.proofs.RoundTrip.{requests_round}
-use Rattle.display_asked.specs.Asked.{asked, row_asked, asked_of, request_asked, TellsAsked}
+use Rattle.display_asked.specs.Asked.{asked, asked_of, request_asked, TellsAsked}
 
 -- of what is built
 built_asked : (m : Request) → asked_of 0 (encode requests to_display m) ≡ request_asked m
@@ -32,20 +28,9 @@ built_asked (table_write c o d) = simp (le-leb 6 (length (encode requests to_dis
 accepted : (s : List ℕ) (m : Request) → Bytes s → decode requests to_display s ≡ ok m → asked_of 0 s ≡ request_asked m
 accepted s m y e = ap (asked_of 0) (sym (requests_round.back to_display s m y e)) ∙ built_asked m
 
-module _ (answer : ℕ) (s : List ℕ) where
-  pub refused : (answer ≡ 0 → ⊥) → asked_of answer s ≡ asked 0 0 0
-  unfolding asked_of
-  refused h = rw (ne_eqb answer 0 h)
-
-  -- a message without a command
-  pub short : length s < 3 → asked_of answer s ≡ asked 0 0 0
-  unfolding asked_of
-  short h = rw (lt-leb 3 (length s) h, and-false (eqb answer 0))
-
-  -- one with a command
-  pub known : answer ≡ 0 → 3 ≤ length s → asked_of answer s ≡ row_asked (row_of way.Request (get_or s 2 0)) s
-  unfolding asked_of
-  known e h = rw (eq-eqb answer 0 e, le-leb 3 (length s) h)
+refused : (answer : ℕ) (s : List ℕ) → (answer ≡ 0 → ⊥) → asked_of answer s ≡ asked 0 0 0
+unfolding asked_of
+refused answer s h = rw (ne_eqb answer 0 h)
 
 pub tells_asked : TellsAsked asked_of
 tells_asked = record { accepted = accepted; refused = refused }

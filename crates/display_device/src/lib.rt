@@ -11,34 +11,30 @@ ghost use Rattle.display_pending.specs.Pending.{pending_set};
 ghost use Rattle.display_device.specs.Timing.{SendsTiming};
 
 use display_pending::Pending;
-use message_output::{Built, length_of};
-use message_rules::{Address, answer};
-use settings_rules::Settings;
+use message_rules::Address;
+use settings_rules::{Accepted, Settings};
 
 // Answers a Get, and returns the length of the reply.
 // It is 0, and nothing is written, where the output has under 38 bytes; no step passes one on.
 pub fn get(a: Address, s: Settings, code: u8, out: &mut [u8]) -> usize
     ensures { Sent true (encode replies a (feature_reply (get_code s code))) out.old out.new result }
 {
-    let v = settings::get(s, code);
-    let built = message_reply_builder::build_value(
-        a, v.result, v.code, v.kind, v.maximum, v.present, out,
-    );
-    length_of(built)
+    let (unknown, kind, maximum, present) = match settings::get(s, code) {
+        Some(v) => (0, u8::from(v.momentary), v.maximum, v.present),
+        None => (1, 0, 0, 0),
+    };
+    message_reply_builder::build_value(a, unknown, code, kind, maximum, present, out).unwrap_or(0)
 }
 
 // Judges a Set. The value of an accepted one is still to be stored, unless the code is momentary.
 pub fn set(s: Settings, code: u8, value: u16) -> Pending
     ensures { result ≡ pending_set s code value }
 {
-    let judgement = settings::judge_set(s, code, value);
-    if judgement.stored {
-        return Pending::Store(code, value);
+    match settings::judge_set(s, code, value) {
+        Ok(Accepted::Stored) => Pending::Store(code, value),
+        Ok(Accepted::Momentary) => Pending::Momentary,
+        Err(refused) => Pending::Refused(u8::from(refused), 0),
     }
-    if judgement.answer == answer::DONE {
-        return Pending::Momentary;
-    }
-    Pending::Refused(judgement.answer, 0)
 }
 
 // Answers a Timing.
@@ -54,7 +50,7 @@ pub fn timing(a: Address, s: Settings, out: &mut [u8]) -> Pending
         out,
     );
     match built {
-        Built::Done(n) => Pending::Replied(n),
-        Built::Refused(answer) => Pending::Refused(answer, 0),
+        Ok(n) => Pending::Replied(n),
+        Err(refusal) => Pending::Refused(u8::from(refusal), 0),
     }
 }

@@ -10,8 +10,7 @@ use Rattle.message_rules.specs.Answer.{done}
 use Rattle.message_rules.specs.Limits.{output_room}
 use Rattle.message_rules.specs.Message.{set_feature}
 use Rattle.buffers.specs.Buffers.{over}
-use Rattle.message_output.specs.Output.{built_length, Builds}
-use Rattle.message_output.specs.declared.Built.{Built}
+use Rattle.message_output.specs.Output.{Built, built_length, Builds}
 use Rattle.codes.specs.Codes.{member}
 use Rattle.settings_rules.specs.Settings.{with_present, set_answer, judge_set, set_code}
 use Rattle.settings_rules.proofs.Answers.{both}

@@ -1,28 +1,27 @@
 -- What a message leaves to be done to the display once it was judged and answered, and what the step comes to when that is done.
-use Rattle.std.specs.Prelude.{ℕ, ◌≡◌, cond, List, length, eqb}
+use Rattle.std.specs.Prelude.{ℕ, ◌≡◌, cond, List, length, eqb, Option, Some, None, Result, Ok, Err}
 use Rattle.message_rules.specs.Answer.{done, wrong_size}
 use Rattle.message_rules.specs.Message.{Request, get_feature, set_feature, timing, save, text, table_read, table_write, requests, decode, to_display}
 use Rattle.message_rules.specs.Read.{Read, ok, refused}
-use Rattle.message_output.specs.declared.Built.{Built}
-use Rattle.message_output.specs.declared.Built.TheVariants as built
+use Rattle.message_rules.specs.Refusal as refusals
+use Rattle.message_rules.specs.declared.refusal.Refusal.{Refusal}
 use Rattle.settings_rules.specs.Settings.{judge_set, with_present, save_all}
-use Rattle.settings_rules.specs.declared.Judgement.{Judgement}
+use Rattle.settings_rules.specs.Settings.{Judgement}
 use Rattle.settings_rules.specs.declared.Settings.{Settings}
 use Rattle.display_rules.specs.State.{unsent, with_settings, with_table, with_cursor}
 use Rattle.display_rules.specs.Turn.{Turn}
 use Rattle.display_rules.specs.Step.{obey, turn_of, lent_well, Outcome}
 use Rattle.display_rules.specs.declared.Display.{Display}
-use Rattle.display_rules.specs.declared.Found.{Found}
-use Rattle.display_rules.specs.declared.Found.TheVariants.{Nothing, Fragment}
+use Rattle.display_rules.specs.declared.Fragment.{Fragment}
 use Rattle.display_pending.specs.declared.Pending.{Pending}
 use Rattle.display_pending.specs.declared.Pending.TheVariants.{Store, Save, Moved, Written, Replied, Momentary, Refused}
 
 -- ---- what is to be done
 
 -- a reply of n bytes was sent: without a fragment, or with the one that was found
-abbrev pub replied : Found → (n : ℕ) → Pending
-replied Nothing n = Replied n
-replied (Fragment k c) n = Moved k c n
+abbrev pub replied : Option Fragment → (n : ℕ) → Pending
+replied None n = Replied n
+replied (Some f) n = Moved f n
 
 -- a message that is answered with 0, by what its rule makes of it; "Momentary: accepted, nothing stored"
 abbrev pub pending_done : Display → Request → Turn → Pending
@@ -60,21 +59,21 @@ abbrev pub pending_set : Settings → (code value : ℕ) → Pending
 pending_set s c v = pending_judged c v (judge_set s c v)
 
 -- a reply without a fragment, by what its builder answered
-abbrev pub pending_built : Built → Pending
-pending_built (built.Done n) = Replied n
-pending_built (built.Refused k) = Refused k 0
+abbrev pub pending_built : Result ℕ Refusal → Pending
+pending_built (Ok n) = Replied n
+pending_built (Err r) = Refused (refusals.number_of r) 0
 
 -- ---- what the step comes to when it is done
 
 -- an answer without a fragment
 abbrev pub answered : Display → (answer length : ℕ) → (table out : List ℕ) → Outcome
-answered d k n table out = record { display = d; answer = k; len = n; found = Nothing; table = table; out = out }
+answered d k n table out = record { display = d; answer = k; len = n; found = None; table = table; out = out }
 
 -- with the two buffers as the message left them
 abbrev pub carried : Display → Pending → (table out : List ℕ) → Outcome
 carried d (Store c value) table out = answered (with_settings d (with_present d.settings c value)) done 0 table out
 carried d Save table out = answered (with_settings d (save_all d.settings)) done 0 table out
-carried d (Moved k c n) table out = record { display = with_cursor k d c; answer = done; len = n; found = Fragment k c; table = table; out = out }
+carried d (Moved f n) table out = record { display = with_cursor f.kind d f.cursor; answer = done; len = n; found = Some f; table = table; out = out }
 carried d (Written n) table out = answered (with_table d (unsent n)) done 0 table out
 carried d (Replied n) table out = answered d done n table out
 carried d Momentary table out = answered d done 0 table out

@@ -4,9 +4,11 @@ ghost use Rattle.message_rules.specs.Answer.{done};
 ghost use Rattle.settings_rules.specs.Settings.{with_present, save_all};
 ghost use Rattle.display_rules.specs.State.{unsent, with_settings, with_table, with_cursor};
 ghost use Rattle.display_rules.specs.Step.{text_number, returned};
-ghost use Rattle.display_rules.specs.declared.Found.TheVariants.{Nothing, Fragment};
+ghost use Rattle.std.specs.Prelude.{Some, None};
 
-use display_rules::{CAPABILITIES_SENT, Display, FragmentCursor, Stepped, TABLE_SENT, TextState};
+use display_rules::{
+    CAPABILITIES_SENT, Display, Fragment, FragmentCursor, Stepped, TABLE_SENT, TextState,
+};
 use message_rules::{TextKind, TextOffset, answer};
 
 // Returns the state of a text of `len` bytes of which nothing was sent.
@@ -14,7 +16,7 @@ pub fn unsent(len: u16) -> TextState
     ensures { result ≡ unsent len }
 {
     TextState {
-        len: len,
+        len,
         cursor: FragmentCursor {
             offset: TextOffset(0),
             len: 0,
@@ -39,9 +41,7 @@ pub fn stored(mut d: Display, code: u8, value: u16) -> Display
 pub fn saved(mut d: Display) -> Display
     ensures { result ≡ with_settings d (save_all d.settings) }
 {
-    let settings = d.settings;
-    let after = settings::save(settings);
-    d.settings = after;
+    d.settings = settings::save(d.settings);
     d
 }
 
@@ -50,23 +50,10 @@ fn with_cursor(mut d: Display, kind: TextKind, cursor: FragmentCursor) -> Displa
     ensures { result ≡ with_cursor kind d cursor }
 {
     match kind {
-        TextKind::Capabilities => {
-            let state = TextState {
-                len: d.capabilities.len,
-                cursor: cursor,
-            };
-            d.capabilities = state;
-            d
-        }
-        TextKind::Table => {
-            let state = TextState {
-                len: d.table.len,
-                cursor: cursor,
-            };
-            d.table = state;
-            d
-        }
+        TextKind::Capabilities => d.capabilities.cursor = cursor,
+        TextKind::Table => d.table.cursor = cursor,
     }
+    d
 }
 
 // Returns the display with a table of `length` bytes of which nothing was sent.
@@ -89,11 +76,11 @@ fn text_number(kind: TextKind) -> u8
 
 // Returns the display with an answer number and the reply's length, and no fragment.
 pub fn answered(d: Display, answer: u8, length: usize) -> Stepped
-    ensures { result ≡ returned d answer length Nothing }
+    ensures { result ≡ returned d answer length None }
 {
     Stepped {
         display: d,
-        answer: answer,
+        answer,
         len: length,
         offset: 0,
         count: 0,
@@ -103,20 +90,19 @@ pub fn answered(d: Display, answer: u8, length: usize) -> Stepped
 
 // Returns the display with the cursor of the fragment that was sent, in a reply of `length` bytes.
 // The numbers are found before the display is passed on, which is then copied once.
-pub fn moved(d: Display, kind: TextKind, cursor: FragmentCursor, length: usize) -> Stepped
-    ensures { result ≡ returned (with_cursor kind d cursor) done length (Fragment kind cursor) }
+pub fn moved(d: Display, sent: Fragment, length: usize) -> Stepped
+    ensures { result ≡ returned (with_cursor sent.kind d sent.cursor) done length (Some sent) }
 {
-    let text = text_number(kind);
-    let at = cursor.offset;
-    let offset = at.0 as usize;
-    let count = cursor.len as usize;
-    let display = with_cursor(d, kind, cursor);
+    let text = text_number(sent.kind);
+    let offset = usize::from(sent.cursor.offset.0);
+    let count = usize::from(sent.cursor.len);
+    let display = with_cursor(d, sent.kind, sent.cursor);
     Stepped {
-        display: display,
+        display,
         answer: answer::DONE,
         len: length,
-        offset: offset,
-        count: count,
-        text: text,
+        offset,
+        count,
+        text,
     }
 }

@@ -5,8 +5,7 @@
 pub mod changes;
 pub mod send;
 
-use display_rules::FragmentCursor;
-use message_rules::TextKind;
+use display_rules::Fragment;
 
 // What a message leaves to be done to the display. The answer is 0 in all cases but the last.
 // The last three change nothing. Each case has its own `return` in a step, which keeps the display's copies few; so does
@@ -18,7 +17,7 @@ pub enum Pending {
     // A Save: every saved value is to be the present one.
     Save,
     // A fragment of a text was sent, in a reply of so many bytes: the text's cursor is to be there.
-    Moved(TextKind, FragmentCursor, usize),
+    Moved(Fragment, usize),
     // The table was written, and has so many bytes now.
     Written(u16),
     // A reply of so many bytes was sent, to a Get or a Timing.

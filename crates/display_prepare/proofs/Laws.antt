@@ -4,6 +4,7 @@ use mathlib.Core.Bool.{Bool, true, false}
 use mathlib.Core.List.{List}
 use Prim.Native.Nat.{ℕ, ◌≤◌}
 use native.Mathlib.Omega.{arith}
+use Rattle.std.specs.Prelude.{min}
 use lib.ListN.{length}
 use lib.Dec.{eqb, leb}
 use borrow.Author.Tests.{le-leb}
@@ -15,7 +16,7 @@ use Rattle.settings_rules.specs.Settings.{get_code, reserved_bits}
 use Rattle.display_rules.specs.Limits.{table_room}
 use Rattle.display_rules.specs.State.{text_state}
 use Rattle.display_rules.specs.Turn.{bytes_of, feature_reply, get_turn, timing_turn}
-use Rattle.display_rules.specs.Fragments.{lesser, next_cursor, read_turn, table_read_turn}
+use Rattle.display_rules.specs.Fragments.{next_cursor, read_turn, table_read_turn}
 use Rattle.display_rules.specs.Table.{write_answer, table_write_turn}
 use Rattle.display_rules.specs.Step.{outcome}
 use Rattle.display_rules.specs.declared.Display.{Display}
@@ -46,14 +47,14 @@ timing_prepares d table before after p h r = go (eqb (reserved_bits d.settings.s
     go false e = record { pending = rw (r.pending, room, e); comes = rw (r.pending, r.leaves, room, e) }
 
 pub read_prepares : (k : TextKind) (d : Display) (lent table before after : List ℕ) (q : ℕ) (p : Pending) → output_room ≤ length before
-    → Reads k (next_cursor (lesser d.size most_fragment) (text_state k d) q) lent table before after p
+    → Reads k (next_cursor (min d.size most_fragment) (text_state k d) q) lent table before after p
     → Prepares d (replied (read_turn k d lent table q).found (length (read_turn k d lent table q).reply)) (outcome (read_turn k d lent table q) before) p table after
 unfolding read_turn
 read_prepares k d lent table before after q p h r =
     let room = le-leb output_room (length before) h in record { pending = rw (r.pending, room); comes = rw (r.pending, r.leaves, room) }
 
 pub table-read_prepares : (d : Display) (lent table before after : List ℕ) (c q : ℕ) (p : Pending) → output_room ≤ length before
-    → ReadsTable c (next_cursor (lesser d.size most_fragment) d.table q) lent table before after p
+    → ReadsTable c (next_cursor (min d.size most_fragment) d.table q) lent table before after p
     → Prepares d (pending_by d (table_read c q) (table_read_turn d lent table c q)) (outcome (table_read_turn d lent table c q) before) p table after
 unfolding table_read_turn read_turn
 table-read_prepares d lent table before after c q p h r = go (eqb c table_code) refl

@@ -24,7 +24,7 @@ use Rattle.display_rules.specs.Turn.{Turn, refusal, accepted, bytes_of, get_turn
 use Rattle.display_rules.specs.Step.{obey, turn, outcome, step}
 use Rattle.display_rules.specs.Kept.{Kept, RightSizes, step_kept}
 use Rattle.display_rules.specs.Operations.{LentRight, Says, ReaderRefuses, Replies, Sends, Gets, GetsFollow, SetsFollow, SavesFollow, TimingSent}
-use Rattle.display_rules.specs.declared.Found.TheVariants.{Nothing}
+use Rattle.std.specs.Prelude.{None}
 use Rattle.display_rules.proofs.Sound.{made_is_sound}
 
 -- ---- what a step that is lent right comes to
@@ -37,7 +37,7 @@ pub obeys : (now : Kept) (message out : List ℕ) (m : Request) → LentRight no
 unfolding step turn
 obeys now message out m w r = rw (lent-well now out w, r)
 
-pub replies_with : (n : ℕ) (bytes out : List ℕ) (t : Turn) → t.reply ≡ bytes → length bytes ≡ n → t.found ≡ Nothing → Replies n bytes out (outcome t out)
+pub replies_with : (n : ℕ) (bytes out : List ℕ) (t : Turn) → t.reply ≡ bytes → length bytes ≡ n → t.found ≡ None → Replies n bytes out (outcome t out)
 replies_with n bytes out t e l f = rw e (record {
   len = l;
   sent = take_at bytes (drop (length bytes) out) n l;

@@ -7,7 +7,7 @@ use Prim.Native.Nat.{ℕ, zero, suc, ◌+◌, ◌-◌, ◌<◌}
 use native.Mathlib.Omega.{arith}
 use lib.ListN.{length, take, drop}
 use lib.Seq.{length-take-le, take-take, take-append_seam, drop-append_seam, take-nil}
-use lib.Dec.{eqb}
+use lib.Dec.{eqb, ltb}
 use borrow.Author.Tests.{eq-eqb, ne_eqb}
 use Rattle.checksum.specs.Bytes as bytes
 use Rattle.message_rules.specs.Body as body
@@ -17,7 +17,7 @@ use Rattle.message_rules.proofs.RoundTrip.{requests_round}
 use Rattle.message_rules.specs.Message.{table_code}
 use Rattle.display_rules.specs.State.{cursor_at, text_state, cursor_of, with_cursor}
 use Rattle.display_rules.specs.Turn.{bytes_of}
-use Rattle.display_rules.specs.Fragments.{lesser, next_offset, next_cursor, fragment_size, fragment_at, found_bytes, fragment_reply, read_turn, table_read_turn}
+use Rattle.display_rules.specs.Fragments.{fragment_of, next_offset, next_cursor, fragment_size, fragment_at, found_bytes, fragment_reply, read_turn, table_read_turn}
 use Rattle.display_rules.specs.Step.{turn, outcome, step}
 use Rattle.display_rules.specs.Kept.{Kept, RightSizes, step_kept, with_display}
 use Rattle.display_rules.specs.Statements.{Sound, Placed, whole, asks_for, Reads, ReadsFollow}
@@ -26,8 +26,9 @@ use Rattle.message_rules.specs.declared.TextKind.TheVariants.{Capabilities, Tabl
 use Rattle.display_rules.specs.declared.FragmentCursor.{FragmentCursor}
 use Rattle.display_rules.specs.declared.TextState.{TextState}
 use Rattle.display_rules.specs.declared.Display.{Display}
-use Rattle.display_rules.specs.declared.Found.TheVariants.{Fragment}
-use Rattle.display_rules.proofs.Tests.{Lent, lent-sizes, lesser_right}
+use Rattle.std.specs.Prelude.{Some, min}
+use Rattle.std.proofs.Math.Nat.{min-le_right}
+use Rattle.display_rules.proofs.Tests.{Lent, lent-sizes, min_by-ltb}
 use Rattle.display_rules.proofs.Sound.{size_is, made_is_sound}
 
 -- ---- where a read goes
@@ -62,7 +63,7 @@ again-is : (p : ℕ) (t : TextState) (q : ℕ) → Placed p t → (q ≡ 0 → �
 unfolding next_cursor
 again-is p t q placed nz h =
     let e : next_offset t.cursor q ≡ t.cursor.offset.0 = next-again t.cursor q h ∙ h in
-    let l : lesser p (t.len - t.cursor.offset.0) ≡ t.cursor.len = ⊎_elim (λ s. absurd (nz (h ∙ ap (λ (c : FragmentCursor). c.offset.0) s))) (λ s. sym s) placed in
+    let l : min p (t.len - t.cursor.offset.0) ≡ t.cursor.len = ⊎_elim (λ s. absurd (nz (h ∙ ap (λ (c : FragmentCursor). c.offset.0) s))) (λ s. sym s) placed in
     rw e (ap (cursor_at t.cursor.offset.0) l)
 
 -- ---- the bytes sent are those of the whole text
@@ -78,11 +79,11 @@ within_front : (p : ℕ) (t : TextState) (q : ℕ) (l : List ℕ) → fragment_a
 unfolding next_cursor
 within_front p t q l =
     let o : ℕ = next_offset t.cursor q in
-    let m : ℕ = lesser p (t.len - o) in
-    sym (ap (take m) (drop-take o t.len l) ∙ take-take m (t.len - o) (drop o l) (lesser_right p (t.len - o)))
+    let m : ℕ = min p (t.len - o) in
+    sym (ap (take m) (drop-take o t.len l) ∙ take-take m (t.len - o) (drop o l) (min-le_right p (t.len - o)))
 
 same_part : (k : TextKind) (now : Kept) (q : ℕ) (c : FragmentCursor) → c ≡ next_cursor (fragment_size now.display) (text_state k now.display) q
-    → found_bytes now.text now.table (Fragment k c) ≡ fragment_at (whole k now) c
+    → found_bytes now.text now.table (Some (fragment_of k c)) ≡ fragment_at (whole k now) c
 same_part Capabilities now q c e = refl
 same_part Table now q c e = rw e (within_front (fragment_size now.display) now.display.table q now.table)
 
@@ -110,9 +111,9 @@ offset-is : (p : ℕ) (t : TextState) (q : ℕ) → (next_cursor p t q).offset.0
 unfolding next_cursor
 offset-is p t q = refl
 
-length-is : (f p : ℕ) (t : TextState) (q : ℕ) → f ≡ p → (next_cursor f t q).len ≡ lesser p (t.len - (next_cursor f t q).offset.0)
+length-is : (f p : ℕ) (t : TextState) (q : ℕ) → f ≡ p → (next_cursor f t q).len ≡ cond (ltb p (t.len - (next_cursor f t q).offset.0)) p (t.len - (next_cursor f t q).offset.0)
 unfolding next_cursor
-length-is f p t q h = rw h
+length-is f p t q h = rw h (min_by-ltb p (t.len - next_offset t.cursor q))
 
 of_read : (k : TextKind) (now : Kept) (out : List ℕ) (q : ℕ) → Sound now.display → RightSizes now out
     → Reads k now out q (outcome (read_turn k now.display now.text now.table q) out)
@@ -122,7 +123,7 @@ of_read k now out q z w =
     let c : FragmentCursor = next_cursor (fragment_size now.display) t q in
     let e : cursor_of k (with_cursor k now.display c) ≡ c = cursor-set k now.display c in
     let o : c.offset.0 ≡ next_offset t.cursor q = offset-is (fragment_size now.display) t q in
-    let same : found_bytes now.text now.table (Fragment k c) ≡ fragment_at (whole k now) c = same_part k now q c refl in
+    let same : found_bytes now.text now.table (Some (fragment_of k c)) ≡ fragment_at (whole k now) c = same_part k now q c refl in
     let r : List ℕ = bytes_of (fragment_reply k c (fragment_at (whole k now) c)) in
     record {
       answer = refl;
@@ -132,7 +133,7 @@ of_read k now out q z w =
       other = λ f g. rw e (o ∙ next-other t.cursor q f g);
       size = rw (e, whole_length k now out z w) (length-is (fragment_size now.display) now.display.size t q (size_is now.display z));
       sent = rw (e, same) (take-append_seam r (drop (length r) out));
-      rest = drop-append_seam (bytes_of (fragment_reply k c (found_bytes now.text now.table (Fragment k c)))) _;
+      rest = drop-append_seam (bytes_of (fragment_reply k c (found_bytes now.text now.table (Some (fragment_of k c))))) _;
       handed = rw e same;
       kept = whole-kept k now c;
     }

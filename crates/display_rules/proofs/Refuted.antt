@@ -33,14 +33,14 @@ use Rattle.display_rules.specs.Statements.{RefusalsChangeNothing, null_bytes, st
 use Rattle.message_rules.specs.declared.TextKind.TheVariants.{Capabilities}
 use Rattle.display_rules.specs.declared.FragmentCursor.{FragmentCursor}
 use Rattle.display_rules.specs.declared.Display.{Display}
-use Rattle.display_rules.specs.declared.Found.TheVariants.{Nothing}
+use Rattle.std.specs.Prelude.{None}
 use Rattle.display_rules.proofs.Reading.{read_back}
 use Rattle.display_rules.proofs.Tables.{accepts}
 
 -- ---- the wrong rules
 
 abbrev refuses_all : StepRule
-refuses_all now message out = record { display = now.display; answer = wrong_field; len = 0; found = Nothing; table = now.table; out = out }
+refuses_all now message out = record { display = now.display; answer = wrong_field; len = 0; found = None; table = now.table; out = out }
 
 abbrev stays_put : StepRule
 stays_put now message out =
@@ -55,7 +55,7 @@ fixed_reply now message out =
 abbrev hands_nothing : StepRule
 hands_nothing now message out =
     let o = step_kept now message out in
-    record { display = o.display; answer = o.answer; len = o.len; found = Nothing; table = o.table; out = o.out }
+    record { display = o.display; answer = o.answer; len = o.len; found = None; table = o.table; out = o.out }
 
 abbrev silent : StepRule
 silent now message out =

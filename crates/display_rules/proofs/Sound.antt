@@ -35,7 +35,7 @@ use Rattle.display_rules.specs.Statements.{Made, started, declared, stepped, loa
 use Rattle.message_rules.specs.declared.TextKind.{TextKind}
 use Rattle.message_rules.specs.declared.TextKind.TheVariants.{Capabilities, Table}
 use Rattle.display_rules.specs.declared.Display.{Display}
-use Rattle.display_rules.proofs.Tests.{lesser-is}
+use Rattle.std.proofs.Math.Nat.{min-eq_left}
 
 -- ---- the start
 
@@ -84,7 +84,7 @@ with-settings d s z h = record { settings = h; low = z.low; high = z.high; text 
 
 -- the size that fragments have
 pub size_is : (d : Display) → Sound d → fragment_size d ≡ d.size
-size_is d z = lesser-is d.size most_fragment z.high
+size_is d z = min-eq_left z.high
 
 after_read : (k : TextKind) (d : Display) (lent table : List ℕ) (q : ℕ) → Sound d → Sound (read_turn k d lent table q).display
 unfolding read_turn next_cursor

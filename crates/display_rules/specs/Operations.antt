@@ -2,7 +2,7 @@
 -- byte of a reply, in the paper's own numbers.
 -- A statement takes the rule for steps as a parameter: proofs/ proves it of Step.antt's, and refutes it of wrong
 -- ones. This file has 1, the reader's refusals, Get, Set, Save and Timing.
-use Rattle.std.specs.Prelude.{ℕ, ◌≤◌, ◌<◌, ◌≡◌, true, false, List, [], ◌∷◌, length, take, drop}
+use Rattle.std.specs.Prelude.{ℕ, None, ◌≤◌, ◌<◌, ◌≡◌, true, false, List, [], ◌∷◌, length, take, drop}
 use Rattle.checksum.specs.Bytes.{Bytes}
 use Rattle.message_rules.specs.Message.{Request, get_feature, set_feature, timing, save, Reply, value, timing_reply, requests, replies, encode, decode, to_display, to_host}
 use Rattle.message_rules.specs.Read.{ok, refused}
@@ -12,7 +12,6 @@ use Rattle.display_rules.specs.Step.{Outcome}
 use Rattle.display_rules.specs.Kept.{Kept, StepRule}
 use Rattle.display_rules.specs.Statements.{Made}
 use Rattle.display_rules.specs.declared.Display.{Display}
-use Rattle.display_rules.specs.declared.Found.TheVariants.{Nothing}
 
 -- ---- what a step is lent, and what it leaves
 
@@ -31,14 +30,14 @@ Says message m = decode requests to_display message ≡ ok m
 pub record NoReply (out : List ℕ) (o : Outcome) : Type 0 where
   pub len : o.len ≡ 0
   pub bytes : o.out ≡ out
-  pub found : o.found ≡ Nothing
+  pub found : o.found ≡ None
 
 -- a reply of n bytes; "Bytes of an output beyond the reply length stay."
 pub record Replies (n : ℕ) (bytes out : List ℕ) (o : Outcome) : Type 0 where
   pub len : o.len ≡ n
   pub sent : take n o.out ≡ bytes
   pub rest : drop n o.out ≡ drop n out
-  pub found : o.found ≡ Nothing
+  pub found : o.found ≡ None
 
 -- a message of n bytes to the host
 abbrev pub Sends : ℕ → Reply → List ℕ → Outcome → Type 0

@@ -1,6 +1,6 @@
 -- What is claimed of a display. A theorem over steps takes the rule for steps as a parameter: proofs/ proves it of
 -- Step.antt's (`step_kept`), and refutes it of wrong ones.
-use Rattle.std.specs.Prelude.{ℕ, ◌+◌, ◌-◌, ◌≤◌, ◌<◌, ◌≡◌, ◌⊎◌, Bool, true, false, cond, ◌&&◌, ◌||◌, List, [], ◌∷◌, ◌++◌, length, take, drop, eqb, ltb}
+use Rattle.std.specs.Prelude.{ℕ, None, min, ◌+◌, ◌-◌, ◌≤◌, ◌<◌, ◌≡◌, ◌⊎◌, Bool, true, false, cond, ◌&&◌, ◌||◌, List, [], ◌∷◌, ◌++◌, length, take, drop, eqb, ltb}
 use Rattle.checksum.specs.Bytes.{Bytes}
 use Rattle.codes.specs.Codes.{all_codes, how_many, count_of}
 use Rattle.message_rules.specs.Answer.{done, unknown_command, code_not_allowed}
@@ -16,14 +16,13 @@ use Rattle.message_rules.specs.Limits.{longest_text}
 use Rattle.display_rules.specs.Limits.{table_room}
 use Rattle.display_rules.specs.State.{starting_cursor, cursor_of, start, declare}
 use Rattle.display_rules.specs.Turn.{bytes_of}
-use Rattle.display_rules.specs.Fragments.{lesser, fragment_at, found_bytes, fragment_reply}
+use Rattle.display_rules.specs.Fragments.{fragment_at, found_bytes, fragment_reply}
 use Rattle.display_rules.specs.Step.{Outcome}
 use Rattle.display_rules.specs.Kept.{Kept, RightSizes, StepRule, kept_after, load}
 use Rattle.message_rules.specs.declared.TextKind.{TextKind}
 use Rattle.message_rules.specs.declared.TextKind.TheVariants.{Capabilities, Table}
 use Rattle.display_rules.specs.declared.TextState.{TextState}
 use Rattle.display_rules.specs.declared.Display.{Display}
-use Rattle.display_rules.specs.declared.Found.TheVariants.{Nothing}
 
 -- ---- a refusal leaves what the table of answers says
 
@@ -50,7 +49,7 @@ null_bytes = 0x6E ∷ 0x80 ∷ 0xBE ∷ []
 pub record NothingChanged (now : Kept) (b : List ℕ) (r : Read Request) (o : Outcome) : Type 0 where
   pub display : o.display ≡ now.display
   pub table : o.table ≡ now.table
-  pub found : o.found ≡ Nothing
+  pub found : o.found ≡ None
   pub len : o.len ≡ cond (null_due r o.answer) 3 0
   pub out : o.out ≡ cond (null_due r o.answer) (over null_bytes b) b
 
@@ -70,7 +69,7 @@ pub data Made (step : StepRule) : Display → Type 0 where
 
 -- a text of which nothing was sent, or the last fragment had "the next min(piece size, bytes left) bytes"
 abbrev pub Placed : (size : ℕ) → TextState → Type 0
-Placed p t = (t.cursor ≡ starting_cursor) ⊎ (t.cursor.len ≡ lesser p (t.len - t.cursor.offset.0))
+Placed p t = (t.cursor ≡ starting_cursor) ⊎ (t.cursor.len ≡ min p (t.len - t.cursor.offset.0))
 
 pub record Sound (d : Display) : Type 0 where
   pub settings : entries.Sound d.settings

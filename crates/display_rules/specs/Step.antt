@@ -1,5 +1,5 @@
 -- The display's step: what it answers, and what it leaves of the display, the table's buffer and the output, for any display, lent bytes and message.
-use Rattle.std.specs.Prelude.{ℕ, Bool, cond, ◌&&◌, List, length, eqb, leb}
+use Rattle.std.specs.Prelude.{ℕ, Option, Some, None, Bool, cond, ◌&&◌, List, length, eqb, leb}
 use Rattle.message_rules.specs.Answer.{wrong_size, unknown_command}
 use Rattle.message_rules.specs.Limits.{output_room}
 use Rattle.message_rules.specs.Message.{Request, get_feature, set_feature, timing, save, text, table_read, table_write, requests, decode, null, to_display, to_host}
@@ -14,8 +14,7 @@ use Rattle.message_rules.specs.declared.TextKind.TheVariants.{Capabilities, Tabl
 use Rattle.display_rules.specs.State.{starting_cursor}
 use Rattle.display_rules.specs.declared.FragmentCursor.{FragmentCursor}
 use Rattle.display_rules.specs.declared.Display.{Display}
-use Rattle.display_rules.specs.declared.Found.{Found}
-use Rattle.display_rules.specs.declared.Found.TheVariants.{Nothing, Fragment}
+use Rattle.display_rules.specs.declared.Fragment.{Fragment}
 use Rattle.display_rules.specs.declared.Stepped.{Stepped}
 
 -- the rules by message
@@ -52,7 +51,7 @@ pub record Outcome : Type 0 where
   pub display : Display
   pub answer : ℕ
   pub len : ℕ
-  pub found : Found
+  pub found : Option Fragment
   pub table : List ℕ
   pub out : List ℕ
 
@@ -78,15 +77,15 @@ text_number Capabilities = 1
 text_number Table = 2
 
 -- the text and the cursor of the fragment that was sent; all is 0 where none was
-abbrev pub sent_text : Found → ℕ
-sent_text Nothing = 0
-sent_text (Fragment k c) = text_number k
+abbrev pub sent_text : Option Fragment → ℕ
+sent_text None = 0
+sent_text (Some f) = text_number f.kind
 
-abbrev pub sent_cursor : Found → FragmentCursor
-sent_cursor Nothing = starting_cursor
-sent_cursor (Fragment k c) = c
+abbrev pub sent_cursor : Option Fragment → FragmentCursor
+sent_cursor None = starting_cursor
+sent_cursor (Some f) = f.cursor
 
-abbrev pub returned : Display → (answer length : ℕ) → Found → Stepped
+abbrev pub returned : Display → (answer length : ℕ) → Option Fragment → Stepped
 returned d k n f = record { display = d; answer = k; len = n; offset = (sent_cursor f).offset.0; count = (sent_cursor f).len; text = sent_text f }
 
 -- all that a step leaves: what it returns, and every lent byte

@@ -1,14 +1,13 @@
 -- What a message comes to, before the reply stands in the output; and Get, Set, Save and Timing (document 01, "The board").
-use Rattle.std.specs.Prelude.{ℕ, cond, List, [], eqb}
+use Rattle.std.specs.Prelude.{ℕ, cond, List, [], Option, None, eqb}
 use Rattle.message_rules.specs.Answer.{done, wrong_field}
 use Rattle.message_rules.specs.Message.{Reply, value, timing_reply, replies, encode, to_host}
 use Rattle.settings_rules.specs.Settings.{reserved_bits, get_code, set_code, save_all, timing_in}
-use Rattle.settings_rules.specs.declared.Feature.{Feature}
+use Rattle.settings_rules.specs.Settings.{Feature}
 use Rattle.settings_rules.specs.declared.Timing.{Timing}
 use Rattle.display_rules.specs.State.{with_settings}
 use Rattle.display_rules.specs.declared.Display.{Display}
-use Rattle.display_rules.specs.declared.Found.{Found}
-use Rattle.display_rules.specs.declared.Found.TheVariants.{Nothing}
+use Rattle.display_rules.specs.declared.Fragment.{Fragment}
 
 -- the answer, what is left of the display and the table's buffer, the bytes of the reply, and the fragment found
 pub record Turn : Type 0 where
@@ -16,7 +15,7 @@ pub record Turn : Type 0 where
   pub display : Display
   pub table : List ℕ
   pub reply : List ℕ
-  pub found : Found
+  pub found : Option Fragment
 
 abbrev pub no_reply : List ℕ
 no_reply = []
@@ -26,11 +25,11 @@ bytes_of m = encode replies to_host m
 
 -- a refusal leaves display and table as they were
 abbrev pub refusal : ℕ → Display → (table reply : List ℕ) → Turn
-refusal k d table reply = record { answer = k; display = d; table = table; reply = reply; found = Nothing }
+refusal k d table reply = record { answer = k; display = d; table = table; reply = reply; found = None }
 
 -- answer 0 without a fragment
 abbrev pub accepted : Display → (table reply : List ℕ) → Turn
-accepted d table reply = record { answer = done; display = d; table = table; reply = reply; found = Nothing }
+accepted d table reply = record { answer = done; display = d; table = table; reply = reply; found = None }
 
 abbrev pub feature_reply : Feature → Reply
 feature_reply v = value v.result v.code v.kind v.maximum v.present
@@ -49,7 +48,7 @@ set_turn d table c v = record {
   display = with_settings d (set_code d.settings c v).settings;
   table = table;
   reply = no_reply;
-  found = Nothing;
+  found = None;
 }
 
 -- "Save: every saved value is the present one. No reply."

@@ -54,14 +54,15 @@ pub struct Changed {
 
 // The fragment that a step found.
 #[derive(Clone, Copy)]
-pub enum Found {
-    // No fragment is sent.
-    Nothing,
-    // The text that it is a part of, and where it stands in it.
-    Fragment(TextKind, FragmentCursor),
+pub struct Fragment {
+    // The text that it is a part of.
+    pub kind: TextKind,
+    // Where it stands in that text.
+    pub cursor: FragmentCursor,
 }
 
 // The number of the text that a fragment was sent of: the capabilities string.
+// A number, not the kind: Stepped holds it as C reads it, and 0 for no fragment.
 pub const CAPABILITIES_SENT: u8 = 1;
 
 // The number of the text that a fragment was sent of: the table.

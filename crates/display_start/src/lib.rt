@@ -2,12 +2,15 @@
 #![tactic(auto)]
 
 ghost use Rattle.std.specs.Prelude.{◌≡◌, length};
+ghost use Rattle.message_rules.specs.Refusal.{answer_number};
+ghost use Rattle.settings_rules.specs.Settings.{start_with};
 ghost use Rattle.display_rules.specs.State.{fresh, empty_display, start_answer, start, declare};
 
 use display_pending::changes;
 use display_rules::{Changed, Display};
 use message_rules::answer;
 use message_rules::limits::{LONGEST_TEXT, MOST_FRAGMENT};
+use message_rules::refusal::{Refusal, number};
 use settings_rules::{Declaration, Settings, Timing};
 
 // Returns a display with a capabilities string of `text_len` bytes and an empty table, of which nothing was sent.
@@ -15,10 +18,10 @@ fn fresh(settings: Settings, text_len: u16, size: u16) -> Display
     ensures { result ≡ fresh settings text_len size }
 {
     Display {
-        settings: settings,
+        settings,
         capabilities: changes::unsent(text_len),
         table: changes::unsent(0),
-        size: size,
+        size,
     }
 }
 
@@ -29,47 +32,38 @@ pub fn empty() -> Display
     fresh(settings::empty(), 0, 1)
 }
 
-// Returns the answer to a start, from the settings' answer to its timing.
-// The length of the capabilities string is judged next, then the fragment size.
+// Allows a start, or refuses it.
+// The timing is judged first, then the length of the capabilities string, then the fragment size.
 #[tactic(auto, unfolding(display_rules::specs::State::start_answer))]
-fn start_answer(timing: u8, text_len: usize, size: u16) -> u8
-    ensures { result ≡ start_answer timing text_len size }
+fn judge_start(timing: Timing, text_len: usize, size: u16) -> Result<(), Refusal>
+    ensures { answer_number result ≡ start_answer (start_with timing).answer text_len size }
 {
-    if timing != answer::DONE {
-        return timing;
-    }
+    settings::judge_start(timing)?;
     if LONGEST_TEXT < text_len {
-        return answer::TEXT_TOO_LONG;
+        return Err(Refusal::TextTooLong);
     }
-    if size == 0 {
-        return answer::NOT_DECLARABLE;
+    if size == 0 || MOST_FRAGMENT < usize::from(size) {
+        return Err(Refusal::NotDeclarable);
     }
-    if MOST_FRAGMENT < size as usize {
-        return answer::NOT_DECLARABLE;
-    }
-    answer::DONE
+    Ok(())
 }
 
 // Returns a display with a timing, a capabilities string and a fragment size, and no code declared yet.
 // A refused start gives the empty display.
+// The struct for C, not a Result: the display, which is large, comes with either answer.
 #[tactic(auto, unfolding(display_rules::specs::State::start))]
 pub fn start(timing: Timing, text: &[u8], size: u16) -> Changed
     ensures { result ≡ start timing (length text.now) size }
 {
-    let begun = settings::start(timing);
-    let answer = start_answer(begun.answer, text.len(), size);
-    if answer != answer::DONE {
-        let display = empty();
-        return Changed {
-            display: display,
-            answer: answer,
-        };
-    }
-    let settings = begun.settings;
-    let display = fresh(settings, text.len() as u16, size);
-    Changed {
-        display: display,
-        answer: answer,
+    match judge_start(timing, text.len(), size) {
+        Ok(()) => Changed {
+            display: fresh(settings::starting(timing), text.len() as u16, size),
+            answer: answer::DONE,
+        },
+        Err(refusal) => Changed {
+            display: empty(),
+            answer: u8::from(refusal),
+        },
     }
 }
 
@@ -78,12 +72,12 @@ pub fn start(timing: Timing, text: &[u8], size: u16) -> Changed
 pub fn declare(mut d: Display, declaration: Declaration) -> Changed
     ensures { result ≡ declare d declaration }
 {
-    let settings = d.settings;
-    let change = settings::declare(settings, declaration);
-    let after = change.settings;
-    d.settings = after;
+    let judged = settings::judge_declaration(d.settings, declaration);
+    if judged.is_ok() {
+        d.settings = settings::with_declaration(d.settings, declaration);
+    }
     Changed {
         display: d,
-        answer: change.answer,
+        answer: number(&judged),
     }
 }

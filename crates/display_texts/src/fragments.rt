@@ -1,16 +1,18 @@
 // The fragments of the two texts: which one a read finds, and its bytes.
 ghost use Rattle.std.specs.Prelude.{◌≡◌, length};
 ghost use Rattle.buffers.specs.Buffers.{part_of};
-ghost use Rattle.display_rules.specs.Fragments.{lesser, next_offset, next_cursor, found_bytes};
+ghost use Rattle.display_rules.specs.Fragments.{next_offset, next_cursor, lent_text, fragment_at, found_bytes};
 
-use display_rules::{Found, FragmentCursor, TextState};
+use display_rules::{Fragment, FragmentCursor, TextState};
 use message_rules::{TextKind, TextOffset};
 
-// Returns the lesser of two numbers.
-pub fn lesser(a: u16, b: u16) -> u16
-    ensures { result ≡ lesser a b }
-{
-    if a < b { a } else { b }
+// The two texts of a display, as they are lent to a step.
+#[derive(Clone, Copy)]
+pub struct Texts<'a> {
+    // The capabilities string.
+    pub capabilities: &'a [u8],
+    // The table's buffer, at whose start the table stands.
+    pub table: &'a [u8],
 }
 
 // Returns the offset that a read at the offset q goes to.
@@ -19,10 +21,7 @@ fn next_offset(c: FragmentCursor, q: TextOffset) -> TextOffset
     ensures { result.0 ≡ next_offset c q.0 }
 {
     let at = c.offset;
-    if q.0 == at.0 {
-        return q;
-    }
-    if q.0 as u32 == at.0 as u32 + c.len as u32 {
+    if q == at || u32::from(q.0) == u32::from(at.0) + u32::from(c.len) {
         return q;
     }
     TextOffset(0)
@@ -33,40 +32,37 @@ fn next_offset(c: FragmentCursor, q: TextOffset) -> TextOffset
 pub fn next_cursor(size: u16, t: TextState, q: TextOffset) -> FragmentCursor
     ensures { result ≡ next_cursor size t q.0 }
 {
-    let cursor = t.cursor;
-    let at = next_offset(cursor, q);
-    if at.0 < t.len {
-        let length = lesser(size, t.len - at.0);
-        return FragmentCursor {
-            offset: at,
-            len: length,
-        };
+    let at = next_offset(t.cursor, q);
+    let left = t.len.saturating_sub(at.0);
+    FragmentCursor {
+        offset: at,
+        len: size.min(left),
     }
-    FragmentCursor { offset: at, len: 0 }
 }
 
-// Returns the n bytes of a text from an offset on, or those of them that there are.
-fn part<'a>(s: &'a [u8], from: TextOffset, n: usize) -> &'a [u8]
-    ensures { result.now ≡ part_of s.now from.0 n }
+// Returns whichever of the two lent texts is of the kind.
+fn lent(texts: Texts<'_>, kind: TextKind) -> &[u8]
+    ensures { result.now ≡ lent_text kind texts.entry.capabilities.now texts.entry.table.now }
 {
-    let at = from.0 as usize;
-    buffers::part(s, at, n)
+    match kind {
+        TextKind::Capabilities => texts.capabilities,
+        TextKind::Table => texts.table,
+    }
+}
+
+// Returns the bytes of a text at a cursor, or those of them that there are.
+fn bytes_at(s: &[u8], c: FragmentCursor) -> &[u8]
+    ensures { result.now ≡ fragment_at s.now c }
+{
+    buffers::part(s, usize::from(c.offset.0), usize::from(c.len))
 }
 
 // Returns the fragment that a step found, as a part of whichever of the two lent texts was asked for.
-// The table is lent as its buffer.
-pub fn handed_back<'a>(text: &'a [u8], table: &'a [u8], found: Found) -> &'a [u8]
-    ensures { result.now ≡ found_bytes text.now table.now found }
+pub fn handed_back(texts: Texts<'_>, found: Option<Fragment>) -> &[u8]
+    ensures { result.now ≡ found_bytes texts.entry.capabilities.now texts.entry.table.now found }
 {
     match found {
-        Found::Nothing => &text[..0],
-        Found::Fragment(kind, cursor) => {
-            let from = cursor.offset;
-            let n = cursor.len as usize;
-            match kind {
-                TextKind::Capabilities => part(text, from, n),
-                TextKind::Table => part(table, from, n),
-            }
-        }
+        Some(f) => bytes_at(lent(texts, f.kind), f.cursor),
+        None => &texts.capabilities[..0],
     }
 }

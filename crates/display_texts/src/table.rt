@@ -1,38 +1,31 @@
 // Writing the table.
 ghost use Rattle.std.specs.Prelude.{◌≡◌, ◌+◌, ◌≤◌, ◌<◌};
+ghost use Rattle.message_rules.specs.Refusal.{answer_number};
 ghost use Rattle.display_rules.specs.Limits.{table_room};
 ghost use Rattle.display_rules.specs.Table.{write_answer, length_after};
 ghost use Rattle.display_texts.specs.Writes.{Writes};
 
-use buffers::{put, wide_word};
+use buffers::put;
 use display_rules::limits::TABLE_ROOM;
-use message_rules::{TABLE_CODE, TextOffset, answer};
+use message_rules::refusal::Refusal;
+use message_rules::{TABLE_CODE, TextOffset};
 
-// What a write comes to.
-#[derive(Clone, Copy)]
-pub struct Writing {
-    // The answer number.
-    pub answer: u8,
-    // The table's length afterwards.
-    pub len: u16,
-}
-
-// Returns the answer to a write of n bytes at an offset of a table of `old` bytes.
+// Accepts a write of n bytes at an offset of a table of `old` bytes, or refuses it.
 #[tactic(auto, unfolding(display_rules::specs::Table::write_answer))]
-fn write_answer(code: u8, old: u16, at: TextOffset, n: usize) -> u8
+fn write_answer(code: u8, old: u16, at: TextOffset, n: usize) -> Result<(), Refusal>
     requires { n < 9223372036854775808 }
-    ensures { result ≡ write_answer code old at.0 n }
+    ensures { answer_number result ≡ write_answer code old at.0 n }
 {
     if code != TABLE_CODE {
-        return answer::CODE_NOT_ALLOWED;
+        return Err(Refusal::CodeNotAllowed);
     }
     if old < at.0 {
-        return answer::NOT_WANTED;
+        return Err(Refusal::NotWanted);
     }
-    if TABLE_ROOM < at.0 as usize + n {
-        return answer::TEXT_TOO_LONG;
+    if TABLE_ROOM < usize::from(at.0) + n {
+        return Err(Refusal::TextTooLong);
     }
-    answer::DONE
+    Ok(())
 }
 
 // Returns the table's length after that write.
@@ -44,33 +37,26 @@ fn length_after(old: u16, at: TextOffset, n: u16) -> u16
     if at.0 == 0 {
         return n;
     }
-    if old < at.0 + n { at.0 + n } else { old }
+    old.max(at.0 + n)
 }
 
 // Writes the bytes at an offset of a table of `old` bytes, into the table's buffer.
-// Returns the answer, and the table's length afterwards.
-// The answer is 1 for a buffer that is too small; no step passes one on.
-pub fn write(old: u16, table: &mut [u8], code: u8, at: TextOffset, data: &[u8]) -> Writing
+// Returns the table's length afterwards. Refused, the buffer is as it was, and so is the length.
+// The refusal is 1 for a buffer that is too small; no step passes one on.
+pub fn write(
+    old: u16,
+    table: &mut [u8],
+    code: u8,
+    at: TextOffset,
+    data: &[u8],
+) -> Result<u16, Refusal>
     ensures { Writes old code at.0 «data».now table.old table.new result }
 {
     let short = table.len() < TABLE_ROOM;
     if short {
-        return Writing {
-            answer: answer::WRONG_SIZE,
-            len: old,
-        };
+        return Err(Refusal::WrongSize);
     }
-    let answer = write_answer(code, old, at, data.len());
-    if answer == answer::DONE {
-        put(table, wide_word(at.0), data);
-        let length = length_after(old, at, data.len() as u16);
-        return Writing {
-            answer: answer,
-            len: length,
-        };
-    }
-    Writing {
-        answer: answer,
-        len: old,
-    }
+    write_answer(code, old, at, data.len())?;
+    put(table, usize::from(at.0), data);
+    Ok(length_after(old, at, data.len() as u16))
 }

@@ -4,8 +4,7 @@ use Rattle.std.specs.Prelude.{ℕ, ◌≡◌, List, [], ◌∷◌, map, length, 
 use Rattle.message_rules.specs.Read.{ok}
 use Rattle.message_rules.specs.Message.{Request, get_feature, set_feature, timing, save, text, Reply, value, timing_reply, text_fragment, requests, replies, encode, decode, to_display, to_host}
 use Rattle.capabilities_rules.specs.Nodes.{nodes_of}
-use Rattle.capabilities_rules.specs.Outcome.{refused, outcome}
-use Rattle.capabilities_rules.specs.declared.Reading.TheVariants.{Accepted}
+use Rattle.capabilities_rules.specs.Outcome.{Refused, outcome, Accepted}
 use Rattle.settings_rules.specs.Settings.{empty_settings, declare_code}
 use Rattle.settings_rules.specs.declared.Declaration.{Declaration}
 use Rattle.profile_rules.specs.Profile.{profile_of, load_profile}
@@ -32,7 +31,7 @@ Holds (accepted s starts parents groups) =
     × (map (λ x. x.start) (nodes_of s) ≡ starts)
     × (map (λ x. x.parent) (nodes_of s) ≡ parents)
     × (map (λ x. x.group) (nodes_of s) ≡ groups)
-Holds (refused_at s number place) = outcome 512 s ≡ refused number place
+Holds (refused_at s number place) = outcome 512 s ≡ Refused number place
 Holds (profiled d s) =
     let one = (declare_code empty_settings d).settings in
     (profile_of one ≡ s) × (load_profile one s ≡ record { settings = one; answer = 0; position = record { 0 = length s } })

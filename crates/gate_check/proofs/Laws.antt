@@ -6,7 +6,7 @@ use native.Mathlib.Omega.{arith}
 use lib.ListN.{length, get_or, take, length-append, length-map, get_or-map}
 use lib.Seq.{take-suc, take_all}
 use Rattle.buffers.specs.Buffers.{put, put_whole}
-use Rattle.buffers.proofs.Puts.{put-none, put-fits, put-length, put_next, put-whole_then}
+use Rattle.buffers.proofs.Puts.{put-none, put-fits, put_next, put-whole_then}
 use Rattle.call_list_rules.specs.CallList.{check_list, no_entry, entry_of}
 use Rattle.call_list_rules.specs.Statements.{IsList, tokens_of}
 use Rattle.call_list_rules.specs.declared.Checked.{Checked}
@@ -23,13 +23,6 @@ pub line-put : (before number one two : List ℕ) (at end : ℕ) → at + line_r
     → end ≡ at + length number → two ≡ put_whole one end (0x0A ∷ []) → two ≡ put before at (number ++ (0x0A ∷ []))
 line-put before number one two at end room short e q f =
     put-whole_then before at number (0x0A ∷ []) one two end (e ∙ put-fits before at number (omega arith)) q f (omega arith)
-
--- a line that fits leaves the text as long as it was
-pub line-length : (n : ℕ) (before after : List ℕ) (at end : ℕ) → at + line_room ≤ length before → PutsLine n before at after end → length after ≡ length before
-line-length n before after at end room p =
-    let written = p.number ++ (0x0A ∷ []) in
-    let short = p.short in
-    ap length p.there ∙ put-length before at written (omega (arith, length-append p.number (0x0A ∷ [])))
 
 -- ---- lines
 

@@ -8,7 +8,6 @@ mod tokens;
 
 use buffers::front;
 use call_list_rules::limits::LONGEST_LIST;
-use input::Input;
 use streams::{STDERR_FILENO, STDOUT_FILENO};
 use tokens::TEXT_ROOM;
 
@@ -24,10 +23,9 @@ fn write_tokens(list: &[u8]) {
 
 fn main(rt: HostRuntime) {
     let mut list = [0u8; INPUT_ROOM];
-    let read = input::read_to_end(&mut rt.reader(), &mut list);
-    match read {
-        Input::Bytes(n) => write_tokens(front(&list, n)),
-        Input::Failed => show::text(
+    match input::read_to_end(&mut rt.reader(), &mut list) {
+        Ok(n) => write_tokens(front(&list, n)),
+        Err(_) => show::text(
             STDERR_FILENO,
             b"gate_check: standard input cannot be read to its end: give a file or a pipe that is open\n",
         ),

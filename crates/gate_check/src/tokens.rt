@@ -30,14 +30,14 @@ pub(crate) fn put_tokens(list: &[u8], text: &mut [u8]) -> usize
     requires { text_room ≤ length text.old }
     ensures { PutsTokens list.now text.old text.new result }
 {
-    let checked = call_list::check(list);
-    let entries = checked.entries;
+    let Ok(entries) = call_list::check(list) else {
+        return 0;
+    };
     let mut at: usize = 0;
-    let mut k: usize = 0;
-    while k < entries {
+    // By number: an entry is read by its number.
+    for k in 0..entries {
         let entry = call_list::entry(list, EntryNumber(k));
         at = put_line(text, at, entry.token);
-        k += 1;
     }
     at
 }

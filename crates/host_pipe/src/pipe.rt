@@ -1,168 +1,132 @@
 // The records of the pipe, from the host's side.
 use buffers::front_mut;
+use frames::Frame;
 use message_rules::answer::DONE;
 use message_rules::limits::OUTPUT_ROOM;
 use std::io::Input;
 use streams::{STDIN_FILENO, STDOUT_FILENO};
 
-// The kind of a record that starts the display.
-pub(crate) const START: u8 = 1;
-
-// The kind of a record that declares a code.
-pub(crate) const DECLARE: u8 = 2;
-
-// The kind of a record that carries a message.
-pub(crate) const MESSAGE: u8 = 3;
+// The kinds of a record that the host sends, at their numbers.
+// Written apart from display_pipe: a mistake in the form of records at either end shows.
+#[derive(Clone, Copy)]
+pub(crate) enum Kind {
+    // It starts the display.
+    Start = 1,
+    // It declares a code.
+    Declare = 2,
+    // It carries a message.
+    Message = 3,
+}
 
 // The bytes in front of a reply: the answer number and the reply's length.
 const HEAD: usize = 3;
 
-// What went wrong on the pipe: nothing.
-pub(crate) const NONE: u8 = 0;
+// What went wrong on the pipe.
+#[derive(Clone, Copy)]
+pub(crate) enum Fault {
+    // The input had ended before a record.
+    Ended,
+    // The record ends in the middle.
+    Cut,
+    // The record's reply has so many bytes, more than any message.
+    TooLong(usize),
+    // The record has a reply of so many bytes where none is due.
+    NotDue(usize),
+    // The answer is this number where 0 is due.
+    // A number, not a Refusal: another display may answer with one that is none.
+    Refused(u8),
+    // The output is closed.
+    NotWritten,
+    // The input cannot be read.
+    NotRead,
+}
 
-// The input had ended before a record.
-pub(crate) const ENDED: u8 = 1;
-
-// The record ends in the middle.
-pub(crate) const CUT: u8 = 2;
-
-// The record's reply is longer than any message.
-pub(crate) const TOO_LONG: u8 = 3;
-
-// The record has a reply where none is due.
-pub(crate) const NOT_DUE: u8 = 4;
-
-// The answer is a refusal where 0 is due.
-pub(crate) const REFUSED: u8 = 5;
-
-// The output is closed.
-pub(crate) const NOT_WRITTEN: u8 = 6;
-
-// The input cannot be read.
-pub(crate) const NOT_READ: u8 = 7;
+// A record that came back.
+#[derive(Clone, Copy)]
+pub(crate) struct Reply {
+    // Its answer number.
+    pub(crate) answer: u8,
+    // The message in it.
+    pub(crate) message: Frame,
+}
 
 // The host's end of the pipe.
-#[derive(Clone, Copy)]
-pub(crate) struct Host {
+#[derive(Drop)]
+pub(crate) struct Host<'a, R> {
+    // What says whether the input can be read.
+    rt: &'a R,
     // How many records were sent.
     pub(crate) records: u64,
-    // The answer number of the last record that came back.
-    pub(crate) answer: u8,
-    // The reply in that record, in front.
-    pub(crate) reply: [u8; OUTPUT_ROOM],
-    // The length of that reply.
-    pub(crate) len: usize,
-    // What went wrong, as one of the numbers above.
-    pub(crate) fault: u8,
 }
 
-// Returns the host before its first record.
-pub(crate) fn fresh() -> Host {
-    Host {
-        records: 0,
-        answer: DONE,
-        reply: [0u8; OUTPUT_ROOM],
-        len: 0,
-        fault: NONE,
+// Writes a record.
+fn write_record(kind: Kind, body: &[u8]) -> Result<(), Fault> {
+    let [low, high, ..] = body.len().to_le_bytes();
+    if io::write_all(STDOUT_FILENO, &[kind as u8, low, high])
+        && io::write_all(STDOUT_FILENO, body)
+    {
+        return Ok(());
     }
+    Err(Fault::NotWritten)
 }
 
-// Returns the host with a fault.
-pub(crate) fn faulty(mut h: Host, fault: u8) -> Host {
-    h.fault = fault;
-    h
-}
+impl<'a, R: Input> Host<'a, R> {
+    // Returns the host before its first record.
+    pub(crate) fn new(rt: &'a R) -> Host<'a, R> {
+        Host { rt, records: 0 }
+    }
 
-// Returns a 16-bit number of a record, the low byte first.
-fn word(low: u8, high: u8) -> usize {
-    low as usize + high as usize * 256
-}
+    // Returns what is wrong where no byte came: an input that has ended, or one that cannot be read.
+    fn silence(&self) -> Fault {
+        if show::input::readable(&mut self.rt.reader()) {
+            Fault::Ended
+        } else {
+            Fault::NotRead
+        }
+    }
 
-// Writes a record, and returns whether all of it was taken.
-fn write_record(kind: u8, body: &[u8]) -> bool {
-    let length = body.len();
-    let head = [kind, (length % 256) as u8, (length / 256 % 256) as u8];
-    if io::write_all(STDOUT_FILENO, &head) {
-        return io::write_all(STDOUT_FILENO, body);
+    // Reads the answer number of the record that comes, and the length of its reply.
+    fn read_head(&self) -> Result<(u8, usize), Fault> {
+        let mut head = [0u8; HEAD];
+        let got = io::read_full(STDIN_FILENO, &mut head);
+        let [answer, low, high] = head;
+        match got {
+            0 => Err(self.silence()),
+            HEAD => Ok((answer, usize::from(u16::from_le_bytes([low, high])))),
+            _ => Err(Fault::Cut),
+        }
     }
-    false
-}
 
-// Returns what is wrong where no byte came: an input that has ended, or one that cannot be read.
-fn silence(rt: &impl Input) -> u8 {
-    if show::input::readable(&mut rt.reader()) {
-        return ENDED;
+    // Reads the record that comes.
+    fn read_record(&self) -> Result<Reply, Fault> {
+        let (answer, len) = self.read_head()?;
+        if OUTPUT_ROOM < len {
+            return Err(Fault::TooLong(len));
+        }
+        let mut message = Frame::EMPTY;
+        message.len = len;
+        if io::read_full(STDIN_FILENO, front_mut(&mut message.bytes, len)) < len {
+            return Err(Fault::Cut);
+        }
+        Ok(Reply { answer, message })
     }
-    NOT_READ
-}
 
-// Returns what is wrong with a head of which so many bytes came.
-fn head_fault(rt: &impl Input, got: usize) -> u8 {
-    match got {
-        0 => silence(rt),
-        HEAD => NONE,
-        _ => CUT,
+    // Sends a record, and returns the one that comes back.
+    pub(crate) fn exchange(&mut self, kind: Kind, body: &[u8]) -> Result<Reply, Fault> {
+        self.records = self.records.wrapping_add(1);
+        write_record(kind, body)?;
+        self.read_record()
     }
-}
 
-// Returns the host with the answer number and the reply's length of the record that comes.
-fn read_head(rt: &impl Input, mut h: Host) -> Host {
-    let mut head = [0u8; HEAD];
-    let got = io::read_full(STDIN_FILENO, &mut head);
-    h.answer = head[0];
-    h.len = word(head[1], head[2]);
-    h.fault = head_fault(rt, got);
-    h
-}
-
-// Returns the host with the reply behind the head that was read.
-fn read_reply(mut h: Host) -> Host {
-    let mut reply = [0u8; OUTPUT_ROOM];
-    let length = h.len;
-    if OUTPUT_ROOM < length {
-        return faulty(h, TOO_LONG);
+    // Sends a record that should be answered with 0 and no reply.
+    pub(crate) fn tell(&mut self, kind: Kind, body: &[u8]) -> Result<(), Fault> {
+        let reply = self.exchange(kind, body)?;
+        if reply.answer != DONE {
+            return Err(Fault::Refused(reply.answer));
+        }
+        if reply.message.len != 0 {
+            return Err(Fault::NotDue(reply.message.len));
+        }
+        Ok(())
     }
-    if io::read_full(STDIN_FILENO, front_mut(&mut reply, length)) < length {
-        return faulty(h, CUT);
-    }
-    h.reply = reply;
-    h
-}
-
-// Returns the host with the record that comes.
-fn read_record(rt: &impl Input, mut h: Host) -> Host {
-    h = read_head(rt, h);
-    if h.fault == NONE {
-        return read_reply(h);
-    }
-    h
-}
-
-// Sends a record, and returns the host with the one that comes back.
-// After a fault nothing more is sent.
-pub(crate) fn exchange(rt: &impl Input, mut h: Host, kind: u8, body: &[u8]) -> Host {
-    if h.fault != NONE {
-        return h;
-    }
-    h.records = u64::wrapping_add(h.records, 1);
-    if write_record(kind, body) {
-        return read_record(rt, h);
-    }
-    faulty(h, NOT_WRITTEN)
-}
-
-// Sends a record that should be answered with 0 and no reply.
-// Returns the host, with a fault where the answer is another.
-pub(crate) fn tell(rt: &impl Input, mut h: Host, kind: u8, body: &[u8]) -> Host {
-    h = exchange(rt, h, kind, body);
-    if h.fault != NONE {
-        return h;
-    }
-    if h.answer != DONE {
-        return faulty(h, REFUSED);
-    }
-    if h.len != 0 {
-        return faulty(h, NOT_DUE);
-    }
-    h
 }

@@ -1,10 +1,10 @@
 // A text read back through a transfer.
 // What the line has spoiled is given to the transfer as it came: it counts, and is asked for again.
-use crate::pipe;
-use crate::pipe::Host;
+use crate::pipe::{Fault, Host, Kind};
 use buffers::front;
+use frames::Frame;
 use message_rules::TextKind;
-use message_rules::limits::{LONGEST_TEXT, OUTPUT_ROOM};
+use message_rules::limits::LONGEST_TEXT;
 use std::io::Input;
 use transfer_rules::{State, Transfer};
 
@@ -12,101 +12,49 @@ use transfer_rules::{State, Transfer};
 const BUDGET: usize = 500;
 
 // A text that is being read.
-#[derive(Clone, Copy)]
+#[derive(Drop)]
 pub(crate) struct Reading {
-    // The host after some exchanges.
-    pub(crate) host: Host,
     // The transfer.
     pub(crate) transfer: Transfer,
     // The transfer's buffer.
-    pub(crate) buffer: [u8; LONGEST_TEXT],
+    buffer: [u8; LONGEST_TEXT],
 }
 
-// Returns whether a transfer is open.
-fn is_running(t: Transfer) -> bool {
-    let state = t.state;
-    match state {
-        State::Running => true,
-        State::Done => false,
-        State::Exhausted => false,
-        State::Overflowed => false,
+impl Reading {
+    // Returns the bytes that were read.
+    pub(crate) fn bytes(&self) -> &[u8] {
+        front(&self.buffer, usize::from(self.transfer.reached.0))
+    }
+
+    // Returns whether the transfer has its whole text.
+    pub(crate) fn is_done(&self) -> bool {
+        self.transfer.state == State::Done
+    }
+
+    // Sends the transfer's next request, and gives the transfer the reply that came.
+    fn exchange<R: Input>(&mut self, host: &mut Host<'_, R>) -> Result<(), Fault> {
+        let mut request = Frame::EMPTY;
+        request.len = transfer::request(self.transfer, &mut request.bytes).unwrap_or(0);
+        let reply = host.exchange(Kind::Message, request.as_slice())?;
+        let received = transfer::receive(self.transfer, &mut self.buffer, reply.message.as_slice());
+        self.transfer = received.transfer;
+        Ok(())
     }
 }
 
-// Returns whether a transfer has its whole text.
-pub(crate) fn is_done(t: Transfer) -> bool {
-    let state = t.state;
-    match state {
-        State::Running => false,
-        State::Done => true,
-        State::Exhausted => false,
-        State::Overflowed => false,
-    }
-}
-
-// Sends the transfer's next request, and returns the host with its reply.
-fn ask(rt: &impl Input, h: Host, t: Transfer) -> Host {
-    let mut request = [0u8; OUTPUT_ROOM];
-    let asked = transfer::request(t, &mut request);
-    pipe::exchange(rt, h, pipe::MESSAGE, front(&request, asked.len))
-}
-
-// Returns the reading after the reply that came was given to its transfer.
-fn receive(mut r: Reading, h: Host) -> Reading {
-    let before = r.transfer;
-    let reply = h.reply;
-    let mut buffer = r.buffer;
-    let received = transfer::receive(before, &mut buffer, front(&reply, h.len));
-    let after = received.transfer;
-    r.transfer = after;
-    r.buffer = buffer;
-    r
-}
-
-// Returns the reading after one exchange.
-fn exchange(rt: &impl Input, mut r: Reading) -> Reading {
-    let mut h = r.host;
-    let t = r.transfer;
-    h = ask(rt, h, t);
-    r.host = h;
-    if h.fault != pipe::NONE {
-        return r;
-    }
-    receive(r, h)
-}
-
-// Returns whether the transfer of a reading is open.
-fn goes_on(r: Reading) -> bool {
-    let t = r.transfer;
-    is_running(t)
-}
-
-// Returns the reading after exchanges until its transfer closes, or after the budget's number of them.
-fn exchanges(rt: &impl Input, mut r: Reading) -> Reading {
-    let mut left = BUDGET;
-    while left > 0 {
-        let next = exchange(rt, r);
-        r = next;
-        if goes_on(r) {
-            left -= 1;
-        } else {
-            return r;
-        }
-    }
-    r
-}
-
-// Returns what reading a text through a transfer brought.
-pub(crate) fn text(rt: &impl Input, h: Host, kind: TextKind) -> Reading {
+// Returns what reading a text through a transfer brought: it closed, or had the budget's number of exchanges.
+pub(crate) fn text<R: Input>(host: &mut Host<'_, R>, kind: TextKind) -> Result<Reading, Fault> {
     let buffer = [0u8; LONGEST_TEXT];
     let begun = transfer::begin(kind, &buffer, BUDGET);
-    let transfer = begun.transfer;
-    exchanges(
-        rt,
-        Reading {
-            host: h,
-            transfer: transfer,
-            buffer: buffer,
-        },
-    )
+    let mut r = Reading {
+        transfer: begun.unwrap_or(Transfer::exhausted(kind)),
+        buffer,
+    };
+    for _ in 0..BUDGET {
+        r.exchange(host)?;
+        if r.transfer.state != State::Running {
+            break;
+        }
+    }
+    Ok(r)
 }

@@ -1,12 +1,9 @@
 // What the host found, for people.
 // It goes to standard error, because standard output carries the records.
 use crate::job::BRIGHT;
-use crate::pipe::Host;
+use crate::pipe::Fault;
 use crate::read::Reading;
-use crate::{pipe, read};
-use buffers::front;
 use streams::STDERR_FILENO;
-use transfer_rules::Transfer;
 
 // Where the report goes.
 const TO: i32 = STDERR_FILENO;
@@ -22,35 +19,34 @@ fn refused(answer: u8) {
 }
 
 // Writes what is wrong with the record, and what to do.
-fn wrong(h: Host) {
-    let fault = h.fault;
+fn wrong(fault: Fault) {
     match fault {
-        pipe::ENDED => show::text(
+        Fault::Ended => show::text(
             TO,
             b" did not come, the input had ended: see what the display wrote to standard error\n",
         ),
-        pipe::CUT => show::text(
+        Fault::Cut => show::text(
             TO,
             b" ends in the middle: see what the display wrote to standard error, and run both again\n",
         ),
-        pipe::TOO_LONG => show::counted(
+        Fault::TooLong(len) => show::counted(
             TO,
             b" has ",
-            h.len as u64,
+            len as u64,
             b" bytes, and a reply at most 38: see that the other end is display_pipe\n",
         ),
-        pipe::NOT_DUE => show::counted(
+        Fault::NotDue(len) => show::counted(
             TO,
             b" has ",
-            h.len as u64,
+            len as u64,
             b" bytes where no reply is due: see that the other end is display_pipe\n",
         ),
-        pipe::REFUSED => refused(h.answer),
-        pipe::NOT_READ => show::text(
+        Fault::Refused(answer) => refused(answer),
+        Fault::NotRead => show::text(
             TO,
             b" could not be read: give the display's output, a pipe that is open, as standard input\n",
         ),
-        _ => show::text(
+        Fault::NotWritten => show::text(
             TO,
             b" could not be asked for, the output is closed: see what the display wrote to standard error\n",
         ),
@@ -58,61 +54,46 @@ fn wrong(h: Host) {
 }
 
 // Writes one line: which reply record, what is wrong with it, what to do.
-pub(crate) fn fault(h: Host) {
-    show::counted(TO, b"host_pipe: reply record ", h.records, b"");
-    wrong(h);
+pub(crate) fn fault(records: u64, fault: Fault) {
+    show::counted(TO, b"host_pipe: reply record ", records, b"");
+    wrong(fault);
 }
 
 // Writes the brightness that the display has, and returns whether it is the one that was set.
-pub(crate) fn value(records: u64, came: bool, present: u16) -> bool {
+pub(crate) fn value(records: u64, present: Option<u16>) -> bool {
     show::counted(TO, b"records exchanged: ", records, b"\n");
-    if came {
-        show::counted(TO, b"brightness: ", present as u64, b"\n");
-        return present == BRIGHT;
+    match present {
+        Some(value) => show::counted(TO, b"brightness: ", u64::from(value), b"\n"),
+        None => show::text(TO, b"brightness: no value came\n"),
     }
-    show::text(TO, b"brightness: no value came\n");
-    false
+    present == Some(BRIGHT)
 }
 
-// Writes how a transfer ended, and returns whether it is done and brought these bytes.
-fn ended(what: &[u8], t: Transfer, same: bool) -> bool {
+// Writes how the reading of a text ended, and returns whether it is done and brought these bytes.
+fn compared(what: &[u8], r: &Reading, wanted: &[u8]) -> bool {
+    let same = r.bytes() == wanted;
     show::text(TO, what);
-    show::counted(TO, b": ", t.reached.0 as u64, b" bytes in ");
-    show::number(TO, t.count as u64, 0);
+    show::counted(TO, b": ", u64::from(r.transfer.reached.0), b" bytes in ");
+    show::number(TO, u64::from(r.transfer.count), 0);
     show::compared(TO, b" exchanges; beside what was sent: ", same);
-    if same { read::is_done(t) } else { false }
-}
-
-// Writes how the reading of a text ended, and returns whether it brought these bytes.
-fn compared(what: &[u8], r: Reading, wanted: &[u8]) -> bool {
-    let t = r.transfer;
-    let buffer = r.buffer;
-    let same = wanted == front(&buffer, t.reached.0 as usize);
-    ended(what, t, same)
+    same && r.is_done()
 }
 
 // Writes the capabilities string's tree where what was read is what was sent, and returns whether all that held.
-pub(crate) fn string(r: Reading, wanted: &[u8]) -> bool {
-    if compared(b"capabilities string", r, wanted) {
-        return show_tree::write(TO, b"  ", wanted);
-    }
-    false
+pub(crate) fn string(r: &Reading, wanted: &[u8]) -> bool {
+    compared(b"capabilities string", r, wanted) && show_tree::write(TO, b"  ", wanted)
 }
 
 // Writes how the table was read, and returns whether it is the list that was written.
-pub(crate) fn table(r: Reading, wanted: &[u8]) -> bool {
+pub(crate) fn table(r: &Reading, wanted: &[u8]) -> bool {
     compared(b"call list", r, wanted)
 }
 
 // Writes whether everything held.
 pub(crate) fn verdict(value: bool, string: bool, table: bool) {
-    if value {
-        if string {
-            if table {
-                show::text(TO, b"everything held\n");
-                return;
-            }
-        }
+    if value && string && table {
+        show::text(TO, b"everything held\n");
+    } else {
+        show::text(TO, b"NOT EVERYTHING HELD\n");
     }
-    show::text(TO, b"NOT EVERYTHING HELD\n");
 }

@@ -9,7 +9,7 @@ use lib.Dec.{eqb, leb, ltb, leb-suc-suc}
 use lib.ListN.{length, get_or, take, drop, length-take, length-drop, get_or-eq_default}
 use lib.Seq.{drop-cons, take_all, take-suc}
 use lib.Bits.{bit_xor, xor_zero_r}
-use borrow.Author.Tests.{ltb-true, ltb-false, leb-true, le-leb, lt-leb, lt-ltb, eq-eqb, ne_eqb}
+use borrow.Author.Tests.{ltb-true, ltb-false, leb-true, lt-ltb, eq-eqb}
 use Rattle.checksum.specs.Xor.{xor_all}
 use Rattle.checksum.proofs.Laws.{xor_all_nil, xor_all_cons, xor_all-append, xor_all-closed, xor_all_closes}
 use Rattle.message_rules.specs.declared.Address.{Address}
@@ -22,7 +22,7 @@ use Rattle.message_rules.specs.Frame.{plain_row, plain, length_byte, fits, body_
 use Rattle.message_rules.specs.Message.{Reading, as_message, body_read, decode}
 use Rattle.message_rules.proofs.Frames.{fits-inside}
 use Rattle.message_rules.proofs.Tests.{and_true, cond_zero}
-use Rattle.message_frame.specs.declared.Shape.{Shape}
+use Rattle.message_frame.specs.declared.row.Shape.{Shape}
 use Rattle.message_frame.specs.Shape.{shape_of, length_right}
 use Rattle.message_frame.specs.Parts.{head_answer, tail_answer, body_in}
 use Rattle.message_frame.specs.Meaning.{Readable}
@@ -30,18 +30,6 @@ use Rattle.message_frame.specs.Meaning.{Readable}
 -- ---- each part, as the code comes to it
 
 module _ (d : Direction) (a : Address) (s : List ℕ) where
-  pub head_short : length s < 3 → head_answer d a s ≡ 2
-  unfolding head_answer
-  head_short h = rw (lt-leb 3 (length s) h)
-
-  pub head_first : 3 ≤ length s → (get_or s 0 0 ≡ a.first → ⊥) → head_answer d a s ≡ 3
-  unfolding head_answer
-  head_first h e = rw (le-leb 3 (length s) h, ne_eqb (get_or s 0 0) a.first e)
-
-  pub head_length : 3 ≤ length s → get_or s 0 0 ≡ a.first → head_answer d a s ≡ unless (leb (body_length s) (longest d) && fits d (body_length s + 3) (length s)) 4 0
-  unfolding head_answer
-  head_length h e = rw (le-leb 3 (length s) h, eq-eqb (get_or s 0 0) a.first e)
-
   -- what a head without a refusal says
   pub record Headed : Type 0 where
     pub long : 3 ≤ length s
@@ -60,10 +48,6 @@ module _ (d : Direction) (a : Address) (s : List ℕ) where
       record { long = leb-true 3 (length s) t1.0; inside = fits-inside d (body_length s + 3) (length s) g.1; short = leb-true (body_length s) (longest d) g.0 }
 
 module _ (a : Address) (p : Bool) (s : List ℕ) where
-  pub tail_form : (get_or s 1 0 ≡ length_byte p (body_length s) → ⊥) → tail_answer a p s ≡ 4
-  unfolding tail_answer
-  tail_form h = rw (ne_eqb (get_or s 1 0) (length_byte p (body_length s)) h)
-
   pub tail_sum : get_or s 1 0 ≡ length_byte p (body_length s) → tail_answer a p s ≡ unless (eqb (xor_all a.seed (take (body_length s + 3) s)) 0) 5 0
   unfolding tail_answer
   tail_sum h = rw (eq-eqb (get_or s 1 0) (length_byte p (body_length s)) h)
@@ -242,5 +226,5 @@ module _ {M : Type 0} (t : Reading M) (a : Address) (s : List ℕ) where
         readable w =
             let l = framed t.direction a s e in
             let h : Shape = shape_of (layout_of c) in
-            let enough = leb-true h.0 (body_length s) (and_true (leb h.0 (body_length s)) (leb (body_length s) (h.0 + h.1)) w).0 in
+            let enough = leb-true h.least (body_length s) (and_true (leb h.least (body_length s)) (leb (body_length s) (h.least + h.«data»)) w).0 in
             (omega (arith, l.long), l.inside, some, omega (arith, enough, some))

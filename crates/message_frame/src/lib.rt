@@ -1,42 +1,53 @@
-// The frame of a message: first byte, length byte and checksum, for either direction and any pair of address bytes.
+// What the readers of requests and of replies share: the tests of a frame, and the rows of the table of messages.
+// A frame is first byte, length byte and checksum, for either direction and any pair of address bytes.
+// Address and slice are given one by one: a struct of them would be made for one call.
 #![tactic(auto)]
 
-ghost use Rattle.std.specs.Prelude.{◌≡◌, ◌<◌, ◌&&◌, ltb, get_or};
+pub mod row;
+
+ghost use Rattle.std.specs.Prelude.{◌≡◌, ◌<◌, get_or};
+ghost use Rattle.message_rules.specs.Body.{empty_answer};
 ghost use Rattle.message_rules.specs.Frame.{body_length, fits, length_byte};
 ghost use Rattle.message_rules.specs.Layout.{longest};
+ghost use Rattle.message_rules.specs.Refusal.{answer_number, number_of};
 ghost use Rattle.message_frame.specs.Parts.{head_answer, tail_answer};
-ghost use Rattle.message_frame.specs.Shape.{length_right};
+ghost use Rattle.message_frame.specs.Verdict.{read_of, verdict_by};
 
-use buffers::{front, octet, wide};
-use message_rules::{Address, Direction, Position, answer, limits};
+use crate::row::SizedRow;
+use buffers::octet;
+use message_rules::refusal::Refusal;
+use message_rules::{Address, Direction, Position, TextOffset, limits};
 
-// The positions of a frame: its first byte, its length byte, and the command number that a body starts with.
-const FIRST_BYTE: Position = Position(0);
-
-const LENGTH_BYTE: Position = Position(1);
-
-const COMMAND: Position = Position(2);
-
-// Returns the byte at a position, or 0 past the end.
-// The head's tests come first, and behind them the compiled code has no test of this.
-fn byte_or_zero(s: &[u8], at: Position) -> u8
-    ensures { result ≡ get_or s.now at.0 0 }
-{
-    octet(s, at.0)
+// The bytes of one of a display's two texts that a message carries: a fragment's data, or those of a Table write.
+#[derive(Clone, Copy)]
+pub struct Carried {
+    // Where they belong in the text.
+    pub offset: TextOffset,
+    // Where they start in the slice that the message was read from.
+    pub at: Position,
+    // How many they are.
+    pub len: usize,
 }
+
+// The indices of a frame's first byte, of its length byte, and of the command number that a body starts with.
+const FIRST_BYTE: usize = 0;
+
+const LENGTH_BYTE: usize = 1;
+
+const COMMAND: usize = 2;
 
 // Returns the byte where a body has its command number.
 pub fn command(s: &[u8]) -> u8
     ensures { result ≡ get_or s.now 2 0 }
 {
-    byte_or_zero(s, COMMAND)
+    octet(s, COMMAND)
 }
 
 // Returns the length of the body by the length byte, in either form.
 pub fn body_length(s: &[u8]) -> usize
     ensures { (result ≡ body_length s.now) × (result < 128) }
 {
-    wide(byte_or_zero(s, LENGTH_BYTE)) % 128
+    usize::from(octet(s, LENGTH_BYTE)) % 128
 }
 
 // Returns the length byte of a body of n bytes, in either form.
@@ -68,73 +79,70 @@ fn fits_slice(direction: Direction, n: usize, len: usize) -> bool
     }
 }
 
-// Returns the answer of the tests before the command number is looked at: 2, 3, and 4.
+// Makes the tests before the command number is looked at, and refuses with 2, 3 or 4.
 // 4 is for a slice that does not agree with its length byte.
-// 0 if none fails.
-pub fn head_answer(direction: Direction, a: Address, s: &[u8]) -> u8
-    ensures { result ≡ head_answer direction a s.now }
+#[tactic(auto, unfolding(crate::specs::Parts::head_answer))]
+pub fn head(direction: Direction, a: Address, s: &[u8]) -> Result<(), Refusal>
+    ensures { answer_number result ≡ head_answer direction a s.now }
 {
     if s.len() < 3 {
-        return answer::TOO_SHORT;
+        return Err(Refusal::TooShort);
     }
-    let first = a.first;
-    if byte_or_zero(s, FIRST_BYTE) != first {
-        return answer::WRONG_FIRST_BYTE;
+    if octet(s, FIRST_BYTE) != a.first {
+        return Err(Refusal::WrongFirstByte);
     }
     let n = body_length(s);
-    let longest = longest_body(direction);
-    if longest < n {
-        return answer::WRONG_LENGTH;
+    if n <= longest_body(direction) && fits_slice(direction, n + 3, s.len()) {
+        return Ok(());
     }
-    if fits_slice(direction, n + 3, s.len()) {
-        return answer::DONE;
-    }
-    answer::WRONG_LENGTH
+    Err(Refusal::WrongLength)
 }
 
-// Returns the answer of the frame's tests that are left: 4 for the other form of length byte, then 5.
-// It is 0 if none fails.
+// Makes the frame's tests that are left, and refuses with 4 for the other form of length byte, then with 5.
 // The last byte is compared with the checksum of those in front of it.
 // A slice that ends before its last byte counts as one that has 0 there: behind the head's tests there is none.
-pub fn tail_answer(a: Address, plain: bool, s: &[u8]) -> u8
-    ensures { result ≡ tail_answer a plain s.now }
+#[tactic(auto, unfolding(crate::specs::Parts::tail_answer))]
+fn tail(a: Address, plain: bool, s: &[u8]) -> Result<(), Refusal>
+    ensures { answer_number result ≡ tail_answer a plain s.now }
 {
     let n = body_length(s);
-    if wide(byte_or_zero(s, LENGTH_BYTE)) != length_byte(plain, n) {
-        return answer::WRONG_LENGTH;
+    if usize::from(octet(s, LENGTH_BYTE)) != length_byte(plain, n) {
+        return Err(Refusal::WrongLength);
     }
-    let seed = a.seed;
-    if checksum::checksum(seed, front(s, n + 2)) != byte_or_zero(s, Position(n + 2)) {
-        return answer::WRONG_CHECKSUM;
+    let summed = &s[..(n + 2).min(s.len())];
+    if checksum::checksum(a.seed, summed) != octet(s, n + 2) {
+        return Err(Refusal::WrongChecksum);
     }
-    answer::DONE
+    Ok(())
 }
 
-// Returns whether the length byte of a body of n bytes is to be plain, by the form that its first byte has.
-// An empty body has none, which is asked only where it matters.
-pub fn body_plain(form: bool, n: usize) -> bool
-    ensures { result ≡ form && ltb 0 n }
+// Returns the refusal of a message without a body: only the host knows a null message.
+fn no_body(direction: Direction) -> Refusal
+    ensures { number_of result ≡ empty_answer direction }
 {
-    if form {
-        return 0 < n;
+    match direction {
+        Direction::Request => Refusal::UnknownCommand,
+        Direction::Reply => Refusal::NullMessage,
     }
-    false
 }
 
-// The body of a command number: at least so many bytes, the number among them, and at most so much data more.
-// Then whether the length byte in front of it is plain.
-#[derive(Clone, Copy)]
-pub struct Shape(pub usize, pub usize, pub bool);
-
-// Returns whether a body of n bytes is right for the shape.
-pub fn length_right(shape: Shape, n: usize) -> bool
-    ensures { result ≡ length_right shape n }
+// Makes the tests behind the head, but those of the fields, by the row of the message's command number.
+// Returns the kind of the message, or the first refusal: 4 or 5, then 6 or 12 for no body, then the row's own.
+// An empty body has no command number, so its length byte is in the common form.
+#[inline(always)]
+#[tactic(auto, unfolding(crate::specs::Verdict::verdict_by))]
+pub fn kind_by<K: Copy>(
+    direction: Direction,
+    a: Address,
+    row: SizedRow<K>,
+    s: &[u8],
+) -> Result<K, Refusal>
+    ensures { read_of result ≡ verdict_by direction a row s.now }
 {
-    if n < shape.0 {
-        return false;
+    let n = body_length(s);
+    tail(a, row.plain && 0 < n, s)?;
+    if n == 0 {
+        return Err(no_body(direction));
     }
-    if shape.1 < n - shape.0 {
-        return false;
-    }
-    true
+    row.verdict
 }

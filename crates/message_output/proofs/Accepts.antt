@@ -5,6 +5,7 @@ use mathlib.Core.Path.{◌≡◌, refl, sym, ap, ap₂, ◌∙◌}
 use mathlib.Core.Bool.{Bool, true, false, cond, ◌&&◌}
 use mathlib.Core.List.{List, [], ◌++◌, append-nil}
 use native.Mathlib.Omega.{arith}
+use Rattle.std.specs.Prelude.{Ok, Err}
 use lib.Dec.{leb}
 use lib.ListN.{length, take, drop}
 use lib.Seq.{take_at}
@@ -21,9 +22,9 @@ use Rattle.message_rules.specs.declared.Direction.TheVariants as way
 use Rattle.message_rules.proofs.RoundTrip.{requests_round, replies_round}
 use Rattle.message_rules.proofs.Tests.{and_true}
 use Rattle.buffers.specs.Buffers.{over}
-use Rattle.message_output.specs.Output.{admits}
+use Rattle.message_output.specs.Output.{Built, admits}
 use Rattle.message_output.specs.Accepts.{Typed, AcceptsExactly, ReadsBack}
-use Rattle.message_output.specs.declared.Built.TheVariants.{Done, Refused}
+use Rattle.message_rules.specs.declared.refusal.Refusal.TheVariants.{WrongSize, WrongField}
 
 both : {x y : Bool} → x ≡ true → y ≡ true → x && y ≡ true
 both p q = ap₂ (λ (x y : Bool). x && y) p q
@@ -52,7 +53,7 @@ nothing way.Reply = tt
 module _ {M : Type 0} (t : Reading M) (round : RoundTrip t) where
   -- by the two tests of a builder: the room of the output, and the fields
   tested : (a : Address) (m : M) (before after : List ℕ) (n : ℕ) (x y : Bool) → (y ≡ true → ValidBody (t.body_for m))
-      → Done n ≡ cond x (cond y (Done (length (encode t a m))) (Refused 7)) (Refused 1)
+      → ◌≡◌ {A = Built} (Ok n) (cond x (cond y (Ok (length (encode t a m))) (Err WrongField)) (Err WrongSize))
       → after ≡ cond x (cond y (over (encode t a m) before) before) before → decode t a (take n after) ≡ ok m
   tested a m before after n true true v e f =
       let s : List ℕ = encode t a m in

@@ -17,9 +17,11 @@ use Rattle.message_rules.specs.Frame.{closed}
 use Rattle.message_rules.specs.Read.{unless}
 use Rattle.buffers.specs.Buffers.{over}
 use Rattle.buffers.proofs.Puts.{over-next}
-use Rattle.message_output.specs.Output.{built_answer, built_output, number_of, built_number, Builds, BuildsShort, refusal}
-use Rattle.message_output.specs.declared.Built.{Built}
-use Rattle.message_output.specs.declared.Built.TheVariants.{Done, Refused}
+use Rattle.message_output.specs.Output.{Built, built_answer, built_output, built_length, built_number, Builds, BuildsShort, refusal}
+use Rattle.std.specs.Prelude.{Ok, Err}
+use Rattle.std.specs.Result.{result_unwrap_or}
+use Rattle.message_rules.specs.Refusal.{answer_number}
+use Rattle.message_rules.specs.declared.refusal.Refusal.TheVariants.{WrongSize, WrongField}
 
 -- one run put behind another, where it goes into the part of the output behind the first
 part_next : (out x y p ys : List ℕ) (at end : ℕ) → p ≡ over x out → at ≡ length x → at ≤ length p → end ≡ length p → ys ≡ over y (mid_of at (end - at) p) → put_mid at (end - at) p ys ≡ over (x ++ y) out
@@ -42,14 +44,19 @@ over_closed seed p out n l h =
     ∙ sym (append_snoc p v (drop (suc n) out))
     ∙ ap (λ (k : ℕ). closed seed p ++ drop k out) end
 
+-- the length of what was built, as the code takes it
+pub unwrapped : (b : Built) → result_unwrap_or b 0 ≡ built_length b
+unwrapped (Ok n) = refl
+unwrapped (Err r) = refl
+
 -- ---- a builder's three answers
 
 module _ (allowed : Bool) (s out : List ℕ) where
   -- the number follows from the answer, by the two tests
-  numbered : (r : Built) → r ≡ built_answer allowed s out → number_of r ≡ built_number allowed (length out)
-  numbered r e = ap number_of e ∙ go (leb output_room (length out)) allowed
+  numbered : (r : Built) → r ≡ built_answer allowed s out → answer_number r ≡ built_number allowed (length out)
+  numbered r e = ap answer_number e ∙ go (leb output_room (length out)) allowed
     where
-      go : (t u : Bool) → number_of (cond t (cond u (Done (length s)) (Refused 7)) (Refused 1)) ≡ unless t 1 (unless u 7 0)
+      go : (t u : Bool) → answer_number (cond t (cond u (Ok (length s)) (Err WrongField)) (Err WrongSize)) ≡ unless t 1 (unless u 7 0)
       go true true = refl
       go true false = refl
       go false u = refl
@@ -57,7 +64,7 @@ module _ (allowed : Bool) (s out : List ℕ) where
   builds : {o : List ℕ} {r : Built} → r ≡ built_answer allowed s out → o ≡ built_output allowed s out → Builds allowed s out o r
   builds {o} {r} p q = record { answers = p; number = numbered r p; leaves = q }
 
-  pub builds-none : length out < output_room → Builds allowed s out out (Refused 1)
+  pub builds-none : length out < output_room → Builds allowed s out out (Err WrongSize)
   builds-none h = builds (rw (lt-leb output_room (length out) h)) (rw (lt-leb output_room (length out) h))
 
   pub builds-refused : allowed ≡ false → (r : Built) → r ≡ refusal (length out) → Builds allowed s out out r
@@ -67,8 +74,8 @@ module _ (allowed : Bool) (s out : List ℕ) where
       go true = refl
       go false = refl
 
-  pub builds-done : output_room ≤ length out → allowed ≡ true → (n : ℕ) (o : List ℕ) → n ≡ length s → o ≡ over s out → Builds allowed s out o (Done n)
-  builds-done h e n o p q = builds (ap Done p ∙ rw (le-leb output_room (length out) h, e)) (q ∙ rw (le-leb output_room (length out) h, e))
+  pub builds-done : output_room ≤ length out → allowed ≡ true → (n : ℕ) (o : List ℕ) → n ≡ length s → o ≡ over s out → Builds allowed s out o (Ok n)
+  builds-done h e n o p q = builds (ap Ok p ∙ rw (le-leb output_room (length out) h, e)) (q ∙ rw (le-leb output_room (length out) h, e))
 
 pub builds_as : {t u : Bool} {s s' out o : List ℕ} {r : Built} → t ≡ u → s ≡ s' → Builds t s out o r → Builds u s' out o r
 builds_as {t} {u} {s} {s'} {out} {o} {r} e f b = subst (λ (x : Bool). Builds x s' out o r) e (subst (λ (x : List ℕ). Builds t x out o r) f b)

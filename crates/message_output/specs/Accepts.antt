@@ -1,5 +1,5 @@
 -- Demand 2 of the builders: "reading what was built gives the same message". A builder accepts exactly the valid messages, and what it answers done with reads back as that message.
-use Rattle.std.specs.Prelude.{ℕ, ◌≡◌, Bool, true, List, length, take}
+use Rattle.std.specs.Prelude.{ℕ, ◌≡◌, Bool, true, List, length, take, Ok}
 use Rattle.checksum.specs.Bytes.{Bytes}
 use Rattle.message_rules.specs.Layout.{layout_of}
 use Rattle.message_rules.specs.Read.{ok}
@@ -7,7 +7,6 @@ use Rattle.message_rules.specs.Body.{Body, Words, ValidBody}
 use Rattle.message_rules.specs.Message.{Reading, decode}
 use Rattle.message_rules.specs.declared.Address.{Address}
 use Rattle.message_output.specs.Output.{BuildsMessage}
-use Rattle.message_output.specs.declared.Built.TheVariants.{Done}
 
 -- what the types of a builder's arguments give: the fields of its row, each a byte or a 16-bit number
 pub record Typed (b : Body) : Type 0 where
@@ -24,4 +23,4 @@ pub record AcceptsExactly (test : Body → Bool) : Type 0 where
 
 -- "reading what was built gives the same message"
 abbrev pub ReadsBack : {M : Type 0} → Reading M → Type 0
-ReadsBack {M} t = (a : Address) (m : M) (before after : List ℕ) (n : ℕ) → Typed (t.body_for m) → BuildsMessage t a m before after (Done n) → decode t a (take n after) ≡ ok m
+ReadsBack {M} t = (a : Address) (m : M) (before after : List ℕ) (n : ℕ) → Typed (t.body_for m) → BuildsMessage t a m before after (Ok n) → decode t a (take n after) ≡ ok m

@@ -1,33 +1,32 @@
 -- What a builder answers, and what it leaves in the output: the same for every message of either direction.
-use Rattle.std.specs.Prelude.{ℕ, ◌≡◌, Bool, cond, ◌&&◌, List, length, leb}
+use Rattle.std.specs.Prelude.{ℕ, ◌≡◌, Bool, cond, ◌&&◌, List, length, leb, Result, Ok, Err}
 use Rattle.buffers.specs.Buffers.{over}
-use Rattle.message_rules.specs.Answer.{wrong_size, wrong_field}
 use Rattle.message_rules.specs.Limits.{output_room}
 use Rattle.message_rules.specs.Read.{unless}
 use Rattle.message_rules.specs.Layout.{layout_of, rule}
 use Rattle.message_rules.specs.Body.{Body}
 use Rattle.message_rules.specs.Message.{Reading, encode}
+use Rattle.message_rules.specs.Refusal.{answer_number}
 use Rattle.message_rules.specs.declared.Address.{Address}
-use Rattle.message_output.specs.declared.Built.{Built}
-use Rattle.message_output.specs.declared.Built.TheVariants.{Done, Refused}
+use Rattle.message_rules.specs.declared.refusal.Refusal.{Refusal}
+use Rattle.message_rules.specs.declared.refusal.Refusal.TheVariants.{WrongSize, WrongField}
+
+-- what a builder answers: the message's length, or the refusal
+abbrev pub Built : Type 0
+Built = Result ℕ Refusal
 
 -- 1 for an output that is too small, then 7 where the message is not allowed, else the message's length
 abbrev pub built_answer : Bool → List ℕ → List ℕ → Built
-built_answer allowed s before = cond (leb output_room (length before)) (cond allowed (Done (length s)) (Refused wrong_field)) (Refused wrong_size)
+built_answer allowed s before = cond (leb output_room (length before)) (cond allowed (Ok (length s)) (Err WrongField)) (Err WrongSize)
 
 -- a refusal leaves the output as it was; "Bytes of an output beyond the reply length stay."
 abbrev pub built_output : Bool → List ℕ → List ℕ → List ℕ
 built_output allowed s before = cond (leb output_room (length before)) (cond allowed (over s before) before) before
 
--- the number of document 01's table that an answer stands for
-abbrev pub number_of : Built → ℕ
-number_of (Done n) = 0
-number_of (Refused k) = k
-
 -- the length of what was built: "Where no reply is due its length is 0"
 abbrev pub built_length : Built → ℕ
-built_length (Done n) = n
-built_length (Refused k) = 0
+built_length (Ok n) = n
+built_length (Err k) = 0
 
 -- 1: "lent output under 38 bytes"; then 7: "builder given such a field"; else 0: "done"
 abbrev pub built_number : Bool → ℕ → ℕ
@@ -36,7 +35,7 @@ built_number allowed room = unless (leb 38 room) 1 (unless allowed 7 0)
 -- what a builder of these bytes answers and leaves
 pub record Builds (allowed : Bool) (s before after : List ℕ) (r : Built) : Type 0 where
   pub answers : r ≡ built_answer allowed s before
-  pub number : number_of r ≡ built_number allowed (length before)
+  pub number : answer_number r ≡ built_number allowed (length before)
   pub leaves : after ≡ built_output allowed s before
 
 -- 7: "builder given such a field". What can be wrong with a body that has its row's fields
@@ -49,7 +48,7 @@ BuildsMessage t a m before after r = Builds (admits (t.body_for m)) (encode t a 
 
 -- the answer to a message that is not allowed
 abbrev pub refusal : ℕ → Built
-refusal room = cond (leb output_room room) (Refused wrong_field) (Refused wrong_size)
+refusal room = cond (leb output_room room) (Err WrongField) (Err WrongSize)
 
 -- what puts any bytes into the output: 7 for more than its room too, which no message of a builder has
 abbrev pub BuildsShort : Bool → List ℕ → List ℕ → List ℕ → Built → Type 0

@@ -1,44 +1,12 @@
 // Putting a message into the output: what the builders of requests and of replies share.
 #![tactic(auto)]
 
-ghost use Rattle.std.specs.Prelude.{◌≡◌, true, ◌++◌, ◌+◌, ◌/◌, ◌%◌, ◌<◌, length, set};
+ghost use Rattle.std.specs.Prelude.{◌≡◌, true, ◌++◌, ◌+◌, ◌<◌, length, set};
 ghost use Rattle.message_rules.specs.Frame.{closed};
-ghost use Rattle.message_output.specs.Output.{built_length, BuildsShort, refusal};
+ghost use Rattle.message_output.specs.Output.{BuildsShort, refusal};
 
-use message_rules::{answer, limits};
-
-// What a builder returns.
-#[derive(Clone, Copy)]
-pub enum Built {
-    // The message stands at the start of the output, and has this many bytes.
-    Done(usize),
-    // The answer number of a refusal; the output stays as it was.
-    Refused(u8),
-}
-
-// Returns the length of what was built, 0 where nothing was.
-pub fn length_of(built: Built) -> usize
-    ensures { result ≡ built_length built }
-{
-    match built {
-        Built::Done(n) => n,
-        Built::Refused(answer) => 0,
-    }
-}
-
-// Returns the high byte of a 16-bit field, which comes first in a message.
-pub fn high(w: u16) -> u8
-    ensures { result ≡ w / 256 }
-{
-    (w / 256) as u8
-}
-
-// Returns the low byte of a 16-bit field.
-pub fn low(w: u16) -> u8
-    ensures { result ≡ w % 256 }
-{
-    (w % 256) as u8
-}
+use message_rules::limits;
+use message_rules::refusal::Refusal;
 
 // Puts the checksum behind the first n bytes.
 // Returns how many bytes there are then.
@@ -51,40 +19,41 @@ fn close(sum: u8, n: usize, out: &mut [u8]) -> usize
 }
 
 // Puts a message into the output: the head with the fields, the data, and the checksum behind them.
-// Returns its length, 1 where the output has under 38 bytes, or 7 where the message has more.
+// Returns its length, or a refusal: 1 where the output has under 38 bytes, 7 where the message has more.
 // No builder has such a message: its own heads and limits say so, and the compiled code has no test of it.
 // The checksum is taken of head and data as they were given.
 // It is not taken of the output, whose bytes have only just been stored.
 // That of a head, whose length the compiler knows in each builder, is taken singly: it is then a few instructions.
-pub fn build(seed: u8, head: &[u8], data: &[u8], out: &mut [u8]) -> Built
+pub fn build(seed: u8, head: &[u8], data: &[u8], out: &mut [u8]) -> Result<usize, Refusal>
     ensures { BuildsShort true (closed seed (head.now ++ «data».now)) out.old out.new result }
 {
     if out.len() < limits::OUTPUT_ROOM {
-        return Built::Refused(answer::WRONG_SIZE);
+        return Err(Refusal::WrongSize);
     }
     if limits::OUTPUT_ROOM <= head.len() + data.len() {
-        return Built::Refused(answer::WRONG_FIELD);
+        return Err(Refusal::WrongField);
     }
     let sum = checksum::checksum(checksum::singly(seed, head), data);
     let at = buffers::copy(head, out);
     let more = buffers::copy(data, &mut out[at..]);
-    Built::Done(close(sum, at + more, out))
+    Ok(close(sum, at + more, out))
 }
 
 // Returns the refusal of a message that is not allowed: 7.
 // The output's size is judged first: under 38 bytes the refusal is 1.
-pub fn refuse(out: &[u8]) -> Built
+pub fn refuse(out: &[u8]) -> Result<usize, Refusal>
     ensures { result ≡ refusal (length out.now) }
 {
     if out.len() < limits::OUTPUT_ROOM {
-        return Built::Refused(answer::WRONG_SIZE);
+        return Err(Refusal::WrongSize);
     }
-    Built::Refused(answer::WRONG_FIELD)
+    Err(Refusal::WrongField)
 }
 
 // Puts the message of a head alone into the output, or refuses it where a field of it is not allowed.
 // Returns its length, or the refusal.
-pub fn build_if(allowed: bool, seed: u8, head: &[u8], out: &mut [u8]) -> Built
+// A flag, so that a builder with a test of its fields is one line.
+pub fn build_if(allowed: bool, seed: u8, head: &[u8], out: &mut [u8]) -> Result<usize, Refusal>
     ensures { BuildsShort allowed (closed seed head.now) out.old out.new result }
 {
     if allowed {

@@ -1,6 +1,7 @@
 // Builders of replies, the messages to the host.
 // Each puts its message into the output and returns the message's length.
-// A refusal returns its number and leaves the output as it was: 1 for an output under 38 bytes, then 7.
+// A refusal leaves the output as it was: 1 for an output under 38 bytes, then 7.
+// Address and output are given one by one: each export has the output, and one address for all.
 #![tactic(auto, unfolding(message_rules::specs::Frame::frame, message_rules::specs::Frame::plain))]
 
 ghost use Rattle.std.specs.Prelude.{true, leb, length};
@@ -9,9 +10,10 @@ ghost use Rattle.message_rules.specs.Message.{replies, value, timing_reply, text
 ghost use Rattle.message_output.specs.Output.{Builds, BuildsMessage};
 ghost use Rattle.message_reply_builder.specs.Fragment.{fragment};
 
-use message_output::{Built, build, build_if, high, low, refuse};
+use message_output::{build, build_if, refuse};
 use message_rules::fields::{status_allowed, value_allowed};
-use message_rules::{Address, TextOffset, answer, limits};
+use message_rules::refusal::Refusal;
+use message_rules::{Address, TextOffset, limits};
 
 // Builds a Value: result, code, type, maximum and present value.
 // A result or a type above 1 is refused with 7.
@@ -23,9 +25,11 @@ pub fn build_value(
     max: u16,
     present: u16,
     out: &mut [u8],
-) -> Built
+) -> Result<usize, Refusal>
     ensures { BuildsMessage replies a (value res code kind max present) out.old out.new result }
 {
+    let [max_high, max_low] = max.to_be_bytes();
+    let [present_high, present_low] = present.to_be_bytes();
     let head = [
         a.first,
         0x88,
@@ -33,10 +37,10 @@ pub fn build_value(
         res,
         code,
         kind,
-        high(max),
-        low(max),
-        high(present),
-        low(present),
+        max_high,
+        max_low,
+        present_high,
+        present_low,
     ];
     build_if(value_allowed(res, kind), a.seed, &head, out)
 }
@@ -49,25 +53,32 @@ pub fn build_timing_reply(
     horizontal: u16,
     vertical: u16,
     out: &mut [u8],
-) -> Built
+) -> Result<usize, Refusal>
     ensures { BuildsMessage replies a (timing_reply status horizontal vertical) out.old out.new result }
 {
+    let [horizontal_high, horizontal_low] = horizontal.to_be_bytes();
+    let [vertical_high, vertical_low] = vertical.to_be_bytes();
     let head = [
         a.first,
         0x06,
         0x4E,
         status,
-        high(horizontal),
-        low(horizontal),
-        high(vertical),
-        low(vertical),
+        horizontal_high,
+        horizontal_low,
+        vertical_high,
+        vertical_low,
     ];
     build_if(status_allowed(status), a.seed, &head, out)
 }
 
 // Builds a fragment of the capabilities string: its offset and its data.
 // More than 32 data bytes are refused with 7.
-pub fn build_text_fragment(a: Address, offset: TextOffset, data: &[u8], out: &mut [u8]) -> Built
+pub fn build_text_fragment(
+    a: Address,
+    offset: TextOffset,
+    data: &[u8],
+    out: &mut [u8],
+) -> Result<usize, Refusal>
     ensures { BuildsMessage replies a (text_fragment offset.0 «data».now) out.old out.new result }
 {
     build_fragment(a, 0xE3, offset, data, out)
@@ -75,31 +86,43 @@ pub fn build_text_fragment(a: Address, offset: TextOffset, data: &[u8], out: &mu
 
 // Builds a fragment of the table: its offset and its data.
 // More than 32 data bytes are refused with 7.
-pub fn build_table_fragment(a: Address, offset: TextOffset, data: &[u8], out: &mut [u8]) -> Built
+pub fn build_table_fragment(
+    a: Address,
+    offset: TextOffset,
+    data: &[u8],
+    out: &mut [u8],
+) -> Result<usize, Refusal>
     ensures { BuildsMessage replies a (table_fragment offset.0 «data».now) out.old out.new result }
 {
     build_fragment(a, 0xE4, offset, data, out)
 }
 
 // Builds a fragment of either text, by its command number.
-fn build_fragment(a: Address, number: u8, offset: TextOffset, data: &[u8], out: &mut [u8]) -> Built
+fn build_fragment(
+    a: Address,
+    number: u8,
+    offset: TextOffset,
+    data: &[u8],
+    out: &mut [u8],
+) -> Result<usize, Refusal>
     ensures { Builds (leb (length «data».now) most_fragment) (fragment a number offset.0 «data».now) out.old out.new result }
 {
     if limits::MOST_FRAGMENT < data.len() {
         return refuse(out);
     }
     let length = (0x83 + data.len()) as u8;
-    let head = [a.first, length, number, high(offset.0), low(offset.0)];
+    let [high, low] = offset.0.to_be_bytes();
+    let head = [a.first, length, number, high, low];
     build(a.seed, &head, data, out)
 }
 
 // Builds the display's null message, a fixed byte string: 6E 80 BE.
 #[tactic(auto, unfolding(message_rules::specs::Frame::frame, message_rules::specs::Frame::plain, checksum::specs::Xor::xor_all))]
-pub fn build_null(out: &mut [u8]) -> Built
+pub fn build_null(out: &mut [u8]) -> Result<usize, Refusal>
     ensures { Builds true (null to_host) out.old out.new result }
 {
     if out.len() < limits::OUTPUT_ROOM {
-        return Built::Refused(answer::WRONG_SIZE);
+        return Err(Refusal::WrongSize);
     }
-    Built::Done(buffers::copy(b"\x6E\x80\xBE", out))
+    Ok(buffers::copy(b"\x6E\x80\xBE", out))
 }

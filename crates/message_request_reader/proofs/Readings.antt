@@ -7,6 +7,7 @@ use native.Mathlib.Omega.{arith}
 use lib.ListN.{length, get_or}
 use Rattle.message_rules.specs.declared.RequestKind.{RequestKind}
 use Rattle.message_rules.specs.declared.RequestKind.TheVariants.{Get, Set, Timing, Save, Text, TableRead, TableWrite}
+use Rattle.std.specs.Prelude.{Ok}
 use Rattle.message_rules.specs.Read.{ok}
 use Rattle.message_rules.specs.Row as kind
 use Rattle.message_rules.specs.Layout.{layout_of, least}
@@ -27,9 +28,9 @@ request_at Timing s = request.Timing
 request_at Save s = request.Save
 request_at Text s = request.Text (record { 0 = word s 3 })
 request_at TableRead s = request.TableRead (get_or s 3 0) (record { 0 = word s 4 })
-request_at TableWrite s = request.TableWrite (get_or s 3 0) (record { 0 = word s 4 }) (record { 0 = 6 }) (body_length s - 4)
+request_at TableWrite s = request.TableWrite (get_or s 3 0) (record { offset = record { 0 = word s 4 }; at = record { 0 = 6 }; len = body_length s - 4 })
 
-request_placed : (c : RequestKind) (s : List ℕ) → body_length s + 3 ≤ length s → least (layout_of (kind.Request c)) ≤ body_length s - 1 → RequestMeans s (request_at c s) (placed_in requests (kind.Request c) s)
+request_placed : (c : RequestKind) (s : List ℕ) → body_length s + 3 ≤ length s → least (layout_of (kind.Request c)) ≤ body_length s - 1 → RequestMeans s (Ok (request_at c s)) (placed_in requests (kind.Request c) s)
 request_placed Get s room h = record { means = refl; inside = tt }
 request_placed Set s room h = record { means = refl; inside = tt }
 request_placed Timing s room h = record { means = refl; inside = tt }
@@ -39,6 +40,6 @@ request_placed TableRead s room h = record { means = refl; inside = tt }
 request_placed TableWrite s room h = record { means = ap (λ (l : List ℕ). ok (table_write (get_or s 3 0) (word s 4) l)) (rest_from s 4 3 (omega arith)); inside = (refl, omega arith) }
 
 pub request-read : {c k : RequestKind} (s : List ℕ) {r : RequestRead} → 0 < body_length s → body_length s + 3 ≤ length s → least (layout_of (kind.Request c)) ≤ body_length s - 1
-    → c ≡ k → r ≡ request_at k s → RequestMeans s r (body_in requests (kind.Request c) s)
+    → c ≡ k → r ≡ request_at k s → RequestMeans s (Ok r) (body_in requests (kind.Request c) s)
 request-read {c} {k} s some room h e q =
-    means_of (body_placed (kind.Request c) s some room h requests) (means_as (q ∙ ap (λ (x : RequestKind). request_at x s) (sym e)) (request_placed c s room h))
+    means_of (body_placed (kind.Request c) s some room h requests) (means_as (ap Ok (q ∙ ap (λ (x : RequestKind). request_at x s) (sym e))) (request_placed c s room h))

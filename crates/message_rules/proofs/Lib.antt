@@ -8,3 +8,4 @@ pub mod RoundTrip
 pub mod Order
 pub mod Checks
 pub mod Valid
+pub mod Refusals

@@ -1,4 +1,5 @@
 pub mod Answer
+pub mod Refusal
 pub mod Limits
 pub mod Status
 pub mod Read

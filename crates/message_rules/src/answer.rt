@@ -1,4 +1,6 @@
 // The answer numbers of documents 01 and 02, as specs/Answer.antt defines them.
+// Numbers beside the enum Refusal: the structs that C takes hold them, and programs tell of any byte that came.
+
 // The call is done.
 pub const DONE: u8 = 0;
 

@@ -7,7 +7,7 @@ ghost use Rattle.message_rules.specs.Status.{reserved_bits};
 pub fn value_allowed(res: u8, kind: u8) -> bool
     ensures { result ≡ ltb res 2 && ltb kind 2 }
 {
-    if res < 2 { kind < 2 } else { false }
+    res < 2 && kind < 2
 }
 
 // Returns whether a timing's status is allowed: its bits 5 to 2 are 0.

@@ -5,9 +5,10 @@
 pub mod answer;
 pub mod fields;
 pub mod limits;
+pub mod refusal;
 
 // Which way a message goes.
-#[derive(Clone, Copy)]
+#[derive(Clone, Copy, PartialEq, Eq)]
 pub enum Direction {
     // To the display (the papers' board).
     Request,
@@ -39,17 +40,17 @@ pub const TO_HOST: Address = Address {
 // A text offset counts bytes of a whole text.
 // No function takes it for a position.
 #[repr(C)]
-#[derive(Clone, Copy)]
+#[derive(Clone, Copy, PartialEq, Eq, PartialOrd, Ord)]
 pub struct TextOffset(pub u16);
 
 // A position counts bytes of one slice: a message, a capabilities string, a profile, a call list (the papers' place).
 // No function takes it for a text offset.
 #[repr(C)]
-#[derive(Clone, Copy)]
+#[derive(Clone, Copy, PartialEq, Eq, PartialOrd, Ord)]
 pub struct Position(pub usize);
 
 // The two texts of a display that are sent in fragments.
-#[derive(Clone, Copy)]
+#[derive(Clone, Copy, PartialEq, Eq)]
 pub enum TextKind {
     // The capabilities string (the papers' capability text).
     Capabilities,

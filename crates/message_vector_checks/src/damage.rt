@@ -1,7 +1,7 @@
 // Damaged variants of a message: each byte changed to each other value, each shorter slice, and a longer one.
 use crate::{builder, number, reader, vector};
 use message_vector_table::fields;
-use message_vector_table::tally::Tally;
+use message_vector_table::tally::{NONE, Tally};
 
 // Returns the bit that a length byte has beside n: none in a reply whose body begins with 4E, else 80.
 pub(crate) fn form(to_host: bool, n: u8, command: u8) -> u8 {
@@ -34,7 +34,7 @@ fn right_length(to_host: bool, size: usize, byte: u8, command: u8) -> bool {
     if byte != n ^ form(to_host, n, command) || n > number::LONGEST_BODY {
         return false;
     }
-    let length = n as usize + 3;
+    let length = usize::from(n) + 3;
     if to_host {
         return size >= length;
     }
@@ -49,17 +49,13 @@ fn refused(to_host: bool, s: &[u8]) -> bool {
 // Returns the tally of the byte at index i changed to every other value; it is put back.
 // No such change keeps the checksum.
 fn changed_byte(to_host: bool, s: &mut [u8], i: usize) -> Tally {
-    let mut sum = Tally(0, 0);
-    if s.len() <= i {
+    let mut sum = NONE;
+    let Some(old) = s.get(i).copied() else {
         return sum;
-    }
-    let old = s[i];
-    let mut flaw = 0;
-    while flaw < 255u8 {
-        flaw += 1;
+    };
+    for flaw in 1..=255u8 {
         s[i] = old ^ flaw;
-        let next = sum.count(refused(to_host, s));
-        sum = next;
+        sum = sum.count(refused(to_host, s));
     }
     s[i] = old;
     sum
@@ -67,11 +63,11 @@ fn changed_byte(to_host: bool, s: &mut [u8], i: usize) -> Tally {
 
 // Returns the tally of each byte changed, and of the slice cut in front of each.
 fn changed(to_host: bool, s: &mut [u8]) -> Tally {
-    let mut sum = Tally(0, 0);
+    let mut sum = NONE;
+    // By index: at each one the byte is changed, and the slice is cut in front of it.
     for i in 0..s.len() {
         let bytes_changed = sum.join(changed_byte(to_host, s, i));
-        let next = bytes_changed.count(refused(to_host, fields::part(s, 0, i)));
-        sum = next;
+        sum = bytes_changed.count(refused(to_host, fields::part(s, 0, i)));
     }
     sum
 }
@@ -93,10 +89,10 @@ pub fn variants(to_host: bool, s: &[u8], answer: u8) -> Tally {
     let room: &mut [u8] = &mut space;
     let n = s.len();
     if vector::builder_answer(answer) != number::DONE {
-        return Tally(0, 0);
+        return NONE;
     }
     if room.len() <= n {
-        return Tally(0, 1);
+        return NONE.count(false);
     }
     buffers::copy(s, room);
     let held = longer_holds(to_host, &room[0..n + 1], answer);

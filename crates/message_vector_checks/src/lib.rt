@@ -1,7 +1,6 @@
 // Judges messages against what document 01 says of them, worked out apart from the message library.
 // It judges a vector's bytes and fields, its output's room, its damaged variants, and the table of messages whole.
 // A judgement restates the papers in code, so no contract says it again: those functions are proved safe and ending.
-// The others say what they return.
 #![tactic(auto)]
 
 mod builder;

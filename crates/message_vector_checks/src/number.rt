@@ -1,4 +1,5 @@
 // Document 01's answer numbers for messages, written down once more: a wrong number in the library then shows.
+
 // The call is done.
 pub const DONE: u8 = 0;
 

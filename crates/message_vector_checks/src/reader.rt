@@ -1,45 +1,56 @@
 // What the library reads from bytes, compared with what it must read.
 use crate::number;
-use message_reply_reader::ReplyRead;
-use message_request_reader::RequestRead;
-use message_rules::{TO_DISPLAY, TO_HOST};
+use message_frame::Carried;
+use message_reply_reader::{ReplyRead, read_display_reply, read_reply};
+use message_request_reader::{RequestRead, read_request};
+use message_rules::{TO_DISPLAY, TO_HOST, TextKind, refusal};
 use message_vector_table::fields;
 use message_vector_table::fields::Fields;
 
-// A reading: the answer number, the fields, where data start in the slice, and how many they are.
+// A message that was read: its fields, where data start in the slice, and how many they are.
 #[derive(Clone, Copy)]
-struct Reading(u8, Fields, usize, usize);
-
-// Returns the reading of a message with at most one byte and one word, and data at this index.
-fn message(command: u8, byte: u8, word: u16, at: usize, len: usize) -> Reading {
-    Reading(0, Fields(command, byte, 0, 0, word, 0), at, len)
+struct Reading {
+    fields: Fields,
+    at: usize,
+    len: usize,
 }
 
-// Returns the reading of a message that is refused.
-fn refused(number: u8) -> Reading {
-    Reading(number, Fields(0, 0, 0, 0, 0, 0), 0, 0)
-}
-
-// Returns what the library read from a request, as a reading.
-fn of_request(read: RequestRead) -> Reading {
-    match read {
-        RequestRead::Get(code) => message(0x01, code, 0, 0, 0),
-        RequestRead::Set { code, value } => message(0x03, code, value, 0, 0),
-        RequestRead::Timing => message(0x07, 0, 0, 0, 0),
-        RequestRead::Save => message(0x0C, 0, 0, 0, 0),
-        RequestRead::Text(offset) => message(0xF3, 0, offset.0, 0, 0),
-        RequestRead::TableRead { code, offset } => message(0xE2, code, offset.0, 0, 0),
-        RequestRead::TableWrite {
-            code,
-            offset,
-            at,
-            len,
-        } => message(0xE7, code, offset.0, at.0, len),
-        RequestRead::Refused(refusal) => refused(refusal),
+// Returns a message without data, by its command number, its single bytes and its words.
+fn message(command: u8, bytes: [u8; 3], words: [u16; 2]) -> Reading {
+    Reading {
+        fields: Fields {
+            command,
+            bytes,
+            words,
+        },
+        at: 0,
+        len: 0,
     }
 }
 
-// Returns what the library read from a reply, as a reading.
+// Returns a message that carries data for an offset of a text.
+fn carrier(command: u8, code: u8, data: Carried) -> Reading {
+    Reading {
+        at: data.at.0,
+        len: data.len,
+        ..message(command, [code, 0, 0], [data.offset.0, 0])
+    }
+}
+
+// Returns what the library read from a request.
+fn of_request(read: RequestRead) -> Reading {
+    match read {
+        RequestRead::Get(code) => message(0x01, [code, 0, 0], [0, 0]),
+        RequestRead::Set { code, value } => message(0x03, [code, 0, 0], [value, 0]),
+        RequestRead::Timing => message(0x07, [0, 0, 0], [0, 0]),
+        RequestRead::Save => message(0x0C, [0, 0, 0], [0, 0]),
+        RequestRead::Text(offset) => message(0xF3, [0, 0, 0], [offset.0, 0]),
+        RequestRead::TableRead { code, offset } => message(0xE2, [code, 0, 0], [offset.0, 0]),
+        RequestRead::TableWrite { code, data } => carrier(0xE7, code, data),
+    }
+}
+
+// Returns what the library read from a reply.
 fn of_reply(read: ReplyRead) -> Reading {
     match read {
         ReplyRead::Value {
@@ -48,69 +59,53 @@ fn of_reply(read: ReplyRead) -> Reading {
             kind,
             max,
             present,
-        } => Reading(0, Fields(0x02, result, code, kind, max, present), 0, 0),
+        } => message(0x02, [result, code, kind], [max, present]),
         ReplyRead::Timing {
             status,
             horizontal,
             vertical,
-        } => Reading(0, Fields(0x4E, status, 0, 0, horizontal, vertical), 0, 0),
-        ReplyRead::TextFragment { offset, at, len } => message(0xE3, 0, offset.0, at.0, len),
-        ReplyRead::TableFragment { offset, at, len } => message(0xE4, 0, offset.0, at.0, len),
-        ReplyRead::Refused(refusal) => refused(refusal),
+        } => message(0x4E, [status, 0, 0], [horizontal, vertical]),
+        ReplyRead::Fragment { kind, data } => match kind {
+            TextKind::Capabilities => carrier(0xE3, 0, data),
+            TextKind::Table => carrier(0xE4, 0, data),
+        },
     }
 }
 
-// Returns what the library reads from these bytes.
+// Returns what the library reads from these bytes, or the answer number that it refuses them with.
 // Of a reply, the reader for any address and that of the display must agree on the answer.
-fn read(to_host: bool, s: &[u8]) -> Reading {
-    if to_host {
-        let any = of_reply(message_reply_reader::read_reply(TO_HOST, s));
-        let own = of_reply(message_reply_reader::read_display_reply(s));
-        if any.0 == own.0 {
-            return own;
-        }
-        return refused(number::DISAGREE);
+// A number, not a Refusal: DISAGREE is none, and the numbers themselves are judged.
+fn read(to_host: bool, s: &[u8]) -> Result<Reading, u8> {
+    if !to_host {
+        return read_request(TO_DISPLAY, s)
+            .map(of_request)
+            .map_err(u8::from);
     }
-    of_request(message_request_reader::read_request(TO_DISPLAY, s))
+    let own = read_display_reply(s);
+    if refusal::number(&read_reply(TO_HOST, s)) != refusal::number(&own) {
+        return Err(number::DISAGREE);
+    }
+    own.map(of_reply).map_err(u8::from)
 }
 
 // Returns the answer number of reading these bytes.
 pub(crate) fn answer(to_host: bool, s: &[u8]) -> u8 {
-    read(to_host, s).0
+    match read(to_host, s) {
+        Ok(_) => number::DONE,
+        Err(refusal) => refusal,
+    }
 }
 
 // Returns whether the `len` bytes from index `at` on are the data.
 fn part_is(s: &[u8], at: usize, len: usize, data: &[u8]) -> bool {
-    if s.len() < at {
-        return false;
-    }
-    let rest = &s[at..];
-    if rest.len() < len {
-        return false;
-    }
-    &rest[0..len] == data
-}
-
-// Returns whether all fields are the same.
-fn same(f: Fields, g: Fields) -> bool {
-    if f.0 != g.0 || f.1 != g.1 || f.2 != g.2 {
-        return false;
-    }
-    f.3 == g.3 && f.4 == g.4 && f.5 == g.5
+    s.get(at..)
+        .is_some_and(|rest| len <= rest.len() && &rest[..len] == data)
 }
 
 // Returns whether reading these bytes gives this answer, and with answer 0 the message with these fields and data.
 pub(crate) fn reads(f: Fields, data: &[u8], s: &[u8], expected: u8) -> bool {
-    let r = read(fields::layout(f.0).1, s);
-    if r.0 != expected {
-        return false;
+    match read(fields::to_host(f.command), s) {
+        Ok(r) => expected == number::DONE && r.fields == f && part_is(s, r.at, r.len, data),
+        Err(refusal) => refusal == expected,
     }
-    if expected != number::DONE {
-        return true;
-    }
-    let g = r.1;
-    if same(f, g) {
-        return part_is(s, r.2, r.3, data);
-    }
-    false
 }

@@ -2,7 +2,7 @@
 use crate::{builder, number, reader};
 use message_vector_table::fields;
 use message_vector_table::fields::Fields;
-use message_vector_table::tally::Tally;
+use message_vector_table::tally::{NONE, Tally};
 
 // Returns the builder's answer to fields whose message is read with this answer: 7 for fields that are not allowed.
 // The null message is built.
@@ -22,10 +22,8 @@ pub fn holds(f: Fields, data: &[u8], s: &[u8], answer: u8) -> bool {
     if !builder::builds(f, data, s, built, out) {
         return false;
     }
-    if built == number::DONE && fields::layout(f.0).1 {
-        if !reader::reads(f, data, out, answer) {
-            return false;
-        }
+    if built == number::DONE && fields::to_host(f.command) && !reader::reads(f, data, out, answer) {
+        return false;
     }
     reader::reads(f, data, s, answer)
 }
@@ -37,7 +35,7 @@ pub fn room(f: Fields, data: &[u8], s: &[u8], answer: u8) -> Tally {
     let mut enough = [builder::BLANK; builder::ROOM];
     let refused = builder::builds(f, data, s, number::WRONG_SIZE, &mut narrow);
     let built = builder::builds(f, data, s, builder_answer(answer), &mut enough);
-    Tally(0, 0).count(refused).count(built)
+    NONE.count(refused).count(built)
 }
 
 // Returns whether the reader's answer to these bytes is this one.
@@ -48,8 +46,8 @@ pub fn answers(to_host: bool, s: &[u8], answer: u8) -> bool {
 // Returns the tally of a message of which only the reader's answer is judged.
 // Such a message has no fields; where some are given, nothing is counted.
 pub fn reading(to_host: bool, f: &[u8], s: &[u8], answer: u8) -> Tally {
-    if f.len() != 0 {
-        return Tally(0, 0);
+    if !f.is_empty() {
+        return NONE;
     }
-    Tally(0, 0).count(answers(to_host, s, answer))
+    NONE.count(answers(to_host, s, answer))
 }

@@ -1,5 +1,5 @@
 -- Parts of a line, and the fields that stand in it.
-use Rattle.std.specs.Prelude.{ℕ, ◌+◌, ◌*◌, cond, ◌&&◌, List, [], length, nat_le, slice_index, slice_range}
+use Rattle.std.specs.Prelude.{ℕ, ◌+◌, ◌*◌, cond, ◌&&◌, List, [], ◌∷◌, length, nat_le, slice_index, slice_range}
 use Rattle.message_vector_table.specs.declared.fields.Fields.{Fields}
 
 -- the bytes from start to end, or none where there is no such part
@@ -12,4 +12,4 @@ word_at w at = slice_index w at * 256 + slice_index w (at + 1)
 
 -- three single bytes and two words behind a command number, each 0 where there is none
 abbrev pub gathered : ℕ → List ℕ → List ℕ → Fields
-gathered command b w = record { 0 = command; 1 = slice_index b 0; 2 = slice_index b 1; 3 = slice_index b 2; 4 = word_at w 0; 5 = word_at w 2 }
+gathered command b w = record { command = command; bytes = slice_index b 0 ∷ slice_index b 1 ∷ slice_index b 2 ∷ []; words = word_at w 0 ∷ word_at w 2 ∷ [] }

@@ -3,7 +3,7 @@ use Rattle.std.specs.Prelude.{◌+◌, ◌%◌, ◌^◌, Bool, cond}
 use Rattle.message_vector_table.specs.declared.tally.Tally.{Tally}
 
 abbrev pub counted : Tally → Bool → Tally
-counted t holds = record { 0 = cond holds ((t.0 + 1) % 2 ^ 32) t.0; 1 = (t.1 + 1) % 2 ^ 32 }
+counted t holds = record { held = cond holds ((t.held + 1) % 2 ^ 32) t.held; tried = (t.tried + 1) % 2 ^ 32 }
 
 abbrev pub joined : Tally → Tally → Tally
-joined t u = record { 0 = (t.0 + u.0) % 2 ^ 32; 1 = (t.1 + u.1) % 2 ^ 32 }
+joined t u = record { held = (t.held + u.held) % 2 ^ 32; tried = (t.tried + u.tried) % 2 ^ 32 }

@@ -3,26 +3,33 @@ ghost use Rattle.std.specs.Prelude.{◌≡◌};
 ghost use Rattle.message_vector_table.specs.Tally.{counted, joined};
 
 // How many vectors hold, and how many were tried.
-#[derive(Clone, Copy)]
-pub struct Tally(pub u32, pub u32);
+#[derive(Clone, Copy, PartialEq, Eq)]
+pub struct Tally {
+    pub held: u32,
+    pub tried: u32,
+}
+
+// The tally of no vectors.
+pub const NONE: Tally = Tally { held: 0, tried: 0 };
 
 impl Tally {
     // Returns the tally with one vector more.
     pub fn count(self, holds: bool) -> Tally
         ensures { result ≡ counted self holds }
     {
-        let tried = u32::wrapping_add(self.1, 1);
-        if holds {
-            return Tally(u32::wrapping_add(self.0, 1), tried);
+        Tally {
+            held: self.held.wrapping_add(u32::from(holds)),
+            tried: self.tried.wrapping_add(1),
         }
-        Tally(self.0, tried)
     }
 
     // Returns the sum of two tallies.
     pub fn join(self, other: Tally) -> Tally
         ensures { result ≡ joined self other }
     {
-        let held = u32::wrapping_add(self.0, other.0);
-        Tally(held, u32::wrapping_add(self.1, other.1))
+        Tally {
+            held: self.held.wrapping_add(other.held),
+            tried: self.tried.wrapping_add(other.tried),
+        }
     }
 }

@@ -7,10 +7,10 @@ mod line;
 mod setting;
 mod values;
 
-use message_vector_checks::{damage, table, vector};
+use line::{Parts, Word};
+use message_vector_checks::{damage, number, table, vector};
 use message_vector_table::fields;
-use message_vector_table::fields::Fields;
-use message_vector_table::tally::Tally;
+use message_vector_table::tally::{NONE, Tally};
 use streams::{STDERR_FILENO, STDIN_FILENO, STDOUT_FILENO};
 
 // One byte more than the longest input.
@@ -19,17 +19,14 @@ const INPUT_ROOM: usize = 16384;
 // The most pairs of digits on a line.
 const LINE_ROOM: usize = 96;
 
+// A line that cannot be run.
+struct Malformed;
+
 // How far the input has been run.
 #[derive(Clone, Copy)]
-struct Progress {
-    // Whether a group has begun.
-    begun: bool,
-    // Whether a line was malformed.
-    stopped: bool,
-    // Where the group's name starts in the input.
-    name: usize,
-    // Where the group's name ends in the input.
-    name_end: usize,
+struct Progress<'a> {
+    // The name of the group that has begun, if any.
+    name: Option<&'a [u8]>,
     // The tally of the group.
     group: Tally,
     // The tally of all groups before it.
@@ -43,162 +40,176 @@ struct Progress {
 // Writes a text and a number behind it.
 fn say(file: i32, text: &[u8], n: u32) {
     io::write_all(file, text);
-    io::print_decimal(file, n as u64);
+    io::print_decimal(file, u64::from(n));
 }
 
 // Writes the line of a group, once it is done. Returns the tally of all groups up to it.
 fn tell(total: Tally, name: &[u8], group: Tally) -> Tally {
     io::write_all(STDOUT_FILENO, name);
-    say(STDOUT_FILENO, b": ", group.0);
-    say(STDOUT_FILENO, b" of ", group.1);
+    say(STDOUT_FILENO, b": ", group.held);
+    say(STDOUT_FILENO, b" of ", group.tried);
     io::write_all(STDOUT_FILENO, b"\n");
     total.join(group)
 }
 
-// Ends the group that has begun, if any. Returns the tally of all groups up to it.
-fn close(p: Progress, s: &[u8]) -> Tally {
-    if p.begun {
-        return tell(p.total, fields::part(s, p.name, p.name_end), p.group);
-    }
-    p.total.join(p.group)
-}
-
-// Ends the group before, and begins one whose name stands here in the input.
-// Returns the progress with it.
-fn begin(mut p: Progress, s: &[u8], name: usize, name_end: usize) -> Progress {
-    let total = close(p, s);
-    let none = Tally(0, 0);
-    p.begun = true;
-    p.name = name;
-    p.name_end = name_end;
-    p.group = none;
-    p.total = total;
-    p
-}
-
 // Writes whether all vectors hold, or how many fail.
 fn verdict(t: Tally) {
-    if t.0 == t.1 {
-        say(STDOUT_FILENO, b"all ", t.1);
+    if t.held == t.tried {
+        say(STDOUT_FILENO, b"all ", t.tried);
         io::write_all(STDOUT_FILENO, b" vectors hold\n");
         return;
     }
-    say(STDOUT_FILENO, b"", u32::wrapping_sub(t.1, t.0));
-    say(STDOUT_FILENO, b" of ", t.1);
+    say(STDOUT_FILENO, b"", t.tried.wrapping_sub(t.held));
+    say(STDOUT_FILENO, b" of ", t.tried);
     io::write_all(STDOUT_FILENO, b" vectors fail\n");
 }
 
-// Returns the progress with one vector that fails, for what cannot be run. It ends the run.
-fn stop(mut p: Progress) -> Progress {
-    let group = p.group.count(false);
-    p.group = group;
-    p.stopped = true;
-    p
-}
-
-// Returns the progress after a message: its bytes and fields, the room of its output, and its damaged variants.
-fn run_fields(mut p: Progress, f: Fields, data: &[u8], s: &[u8], answer: u8) -> Progress {
-    let to_host = fields::layout(f.0).1;
-    let group = p.group.count(vector::holds(f, data, s, answer));
-    p.group = group;
-    let room = p.room.join(vector::room(f, data, s, answer));
-    p.room = room;
-    let damaged = p.damaged.join(damage::variants(to_host, s, answer));
-    p.damaged = damaged;
-    p
-}
-
-// Returns the progress after a message that is given by the bytes of its fields.
-// They must be as many as the message has.
-fn run_message(p: Progress, command: u8, f: &[u8], s: &[u8], answer: u8) -> Progress {
-    let shape = fields::layout(command);
-    let words = shape.2 as usize;
-    let data = words + shape.3 as usize;
-    if f.len() < data || (shape.4 == 0 && f.len() != data) {
-        return stop(p);
-    }
-    let gathered = fields::gather(
-        command,
-        fields::part(f, 0, words),
-        fields::part(f, words, data),
-    );
-    run_fields(p, gathered, fields::part(f, data, f.len()), s, answer)
-}
-
-// Returns the progress with these vectors added to the group. None at all is a malformed line.
-fn add(mut p: Progress, t: Tally) -> Progress {
-    if t.1 == 0 {
-        return stop(p);
-    }
-    let group = p.group.join(t);
-    p.group = group;
-    p
-}
-
-// Returns the progress after one vector: its fields, the message's bytes, and the answer behind them.
-// An answer number is written in decimal.
-fn judge(p: Progress, command: u8, f: &[u8], s: &[u8], behind: &[u8]) -> Progress {
-    if behind.len() > 1 || (command == line::SETTING && behind.len() != 0) {
-        return stop(p);
-    }
-    let digits = buffers::octet(behind, 0);
-    let answer = digits / 16 * 10 + digits % 16;
-    match command {
-        line::REQUEST => add(p, vector::reading(false, f, s, answer)),
-        line::REPLY => add(p, vector::reading(true, f, s, answer)),
-        line::SETTING => add(p, setting::row(f, s)),
-        _ => run_message(p, command, f, s, answer),
-    }
-}
-
-// Returns the progress after a line whose pairs have been read.
-fn run_pairs(p: Progress, command: u8, row: line::Row, octets: &[u8]) -> Progress {
-    if row.stage == line::MALFORMED || command == line::UNKNOWN {
-        return stop(p);
-    }
-    let f = fields::part(octets, 0, row.fields);
-    let s = fields::part(octets, row.fields, row.bytes);
-    judge(p, command, f, s, fields::part(octets, row.bytes, row.count))
-}
-
-// Returns the progress after a line that holds a vector.
-fn run_vector(p: Progress, s: &[u8]) -> Progress {
-    let mut space = [0u8; LINE_ROOM];
-    let octets: &mut [u8] = &mut space;
-    let end = buffers::find(s, 0, b' ');
-    let row = line::pairs(&s[end..], octets);
-    let command = line::command(&s[0..end]);
-    run_pairs(p, command, row, octets)
-}
-
-// Returns the progress after a line that is not empty.
-// It is a group's name in brackets, a vector of a group, or a comment.
-// It stands from `at` to `end` in the input s.
-fn run_line(p: Progress, s: &[u8], at: usize, end: usize) -> Progress {
-    let text = fields::part(s, at, end);
-    let first = buffers::octet(text, 0);
-    if first == b'#' {
-        return p;
-    }
-    if first == b'[' {
-        let last = buffers::find(text, 0, b']');
-        if usize::wrapping_add(last, 1) == text.len() {
-            let name = usize::wrapping_add(at, 1);
-            let name_end = usize::wrapping_add(at, last);
-            return begin(p, s, name, name_end);
+impl<'a> Progress<'a> {
+    // Ends the group that has begun, if any. Returns the tally of all groups up to it.
+    fn close(self) -> Tally {
+        match self.name {
+            Some(name) => tell(self.total, name, self.group),
+            None => self.total.join(self.group),
         }
-        return stop(p);
     }
-    if p.begun {
-        return run_vector(p, text);
-    }
-    stop(p)
-}
 
-// Returns how many vectors have failed so far, and damaged variants and outputs with them.
-fn failed(p: Progress) -> u32 {
-    let all = p.total.join(p.group).join(p.room).join(p.damaged);
-    u32::wrapping_sub(all.1, all.0)
+    // Ends the group before, and begins one.
+    fn begin(&mut self, name: &'a [u8]) {
+        self.total = self.close();
+        self.name = Some(name);
+        self.group = NONE;
+    }
+
+    // Returns how many vectors have failed so far, and damaged variants and outputs with them.
+    fn failed(self) -> u32 {
+        let all = self
+            .total
+            .join(self.group)
+            .join(self.room)
+            .join(self.damaged);
+        all.tried.wrapping_sub(all.held)
+    }
+
+    // Runs a message that is given by the bytes of its fields, which must be as many as the message has.
+    // Its bytes and fields are judged, the room of its output, and its damaged variants.
+    fn run_message(&mut self, command: u8, parts: Parts, answer: u8) -> Result<(), Malformed> {
+        // The null message, which has no row, has no fields either.
+        let (words, size, most) = match fields::layout(command) {
+            Some(shape) => (
+                usize::from(shape.bytes),
+                usize::from(shape.bytes) + usize::from(shape.words),
+                shape.data,
+            ),
+            None => (0, 0, 0),
+        };
+        let Some((f, data)) = parts.fields.split_at_checked(size) else {
+            return Err(Malformed);
+        };
+        if most == 0 && !data.is_empty() {
+            return Err(Malformed);
+        }
+        let f = fields::gather(command, buffers::front(f, words), buffers::behind(f, words));
+        let s = parts.bytes;
+        self.group = self.group.count(vector::holds(f, data, s, answer));
+        self.room = self.room.join(vector::room(f, data, s, answer));
+        self.damaged = self
+            .damaged
+            .join(damage::variants(fields::to_host(command), s, answer));
+        Ok(())
+    }
+
+    // Runs a message of which only the reading is judged: it has no fields.
+    fn run_reading(&mut self, to_host: bool, parts: Parts, answer: u8) -> Result<(), Malformed> {
+        if !parts.fields.is_empty() {
+            return Err(Malformed);
+        }
+        self.group = self
+            .group
+            .count(vector::answers(to_host, parts.bytes, answer));
+        Ok(())
+    }
+
+    // Runs a setting, which has no answer.
+    fn run_setting(&mut self, parts: Parts) -> Result<(), Malformed> {
+        match (setting::row(parts.fields, parts.bytes), parts.answer) {
+            (Some(held), None) => {
+                self.group = self.group.join(held);
+                Ok(())
+            }
+            _ => Err(Malformed),
+        }
+    }
+
+    // Runs a line that holds a vector.
+    fn run_vector(&mut self, s: &[u8]) -> Result<(), Malformed> {
+        let mut space = [0u8; LINE_ROOM];
+        let end = buffers::find(s, 0, b' ');
+        let word = line::meaning(buffers::front(s, end));
+        let parts = line::read_parts(buffers::behind(s, end), &mut space);
+        let (Some(word), Some(parts)) = (word, parts) else {
+            return Err(Malformed);
+        };
+        let answer = parts.answer.unwrap_or(number::DONE);
+        match word {
+            Word::Message(command) => self.run_message(command, parts, answer),
+            Word::Reading { to_host } => self.run_reading(to_host, parts, answer),
+            Word::Setting => self.run_setting(parts),
+        }
+    }
+
+    // Runs a line: a group's name in brackets, a vector of a group, a comment, or nothing.
+    fn run_line(&mut self, s: &'a [u8]) -> Result<(), Malformed> {
+        match s {
+            [] | [b'#', ..] => Ok(()),
+            [b'[', rest @ ..] => match vector_line::split_once(rest, b']') {
+                Some((name, [])) => {
+                    self.begin(name);
+                    Ok(())
+                }
+                _ => Err(Malformed),
+            },
+            _ if self.name.is_some() => self.run_vector(s),
+            _ => Err(Malformed),
+        }
+    }
+
+    // Runs all lines, or those up to the first that is malformed, which counts as a vector that fails.
+    // Names each line that is malformed, or whose vector does not hold.
+    fn run_lines(&mut self, s: &'a [u8]) -> Result<(), Malformed> {
+        let mut number = 0u32;
+        for text in s.split(|b| *b == b'\n') {
+            number = number.wrapping_add(1);
+            let before = self.failed();
+            if let Err(malformed) = self.run_line(text) {
+                self.group = self.group.count(false);
+                name_line(number, b" is malformed: ", text);
+                return Err(malformed);
+            }
+            if self.failed() != before {
+                name_line(number, b" does not hold: ", text);
+            }
+        }
+        Ok(())
+    }
+
+    // Runs the input's groups. An input that is too long, or has no vectors, counts as a vector that fails.
+    fn run_input(&mut self, s: &'a [u8]) -> Result<(), Malformed> {
+        if s.len() == INPUT_ROOM {
+            io::write_all(
+                STDERR_FILENO,
+                b"vectors: the input has more than 16383 bytes\n",
+            );
+            self.group = self.group.count(false);
+            return Err(Malformed);
+        }
+        self.run_lines(s)?;
+        if self.group.tried == 0 && self.total.tried == 0 {
+            io::write_all(STDERR_FILENO, b"vectors: the input has no vectors\n");
+            self.group = self.group.count(false);
+            return Err(Malformed);
+        }
+        Ok(())
+    }
 }
 
 // Writes a line's number and what is said of it, then its text.
@@ -207,71 +218,6 @@ fn name_line(number: u32, what: &[u8], text: &[u8]) {
     io::write_all(STDERR_FILENO, what);
     io::write_all(STDERR_FILENO, text);
     io::write_all(STDERR_FILENO, b"\n");
-}
-
-// Names a line that is malformed, or whose vector does not hold.
-// A line holds where as many vectors had failed before it.
-fn report(before: u32, p: Progress, number: u32, text: &[u8]) {
-    if failed(p) == before {
-        return;
-    }
-    if p.stopped {
-        name_line(number, b" is malformed: ", text);
-        return;
-    }
-    name_line(number, b" does not hold: ", text);
-}
-
-// Returns the progress after all lines, or after the first that is malformed.
-fn run_lines(mut p: Progress, s: &[u8]) -> Progress {
-    let mut at = 0;
-    let mut number = 0u32;
-    while at < s.len() {
-        let end = buffers::find(s, at, b'\n');
-        let before = failed(p);
-        number = u32::wrapping_add(number, 1);
-        if at < end {
-            let next = run_line(p, s, at, end);
-            p = next;
-            report(before, p, number, &s[at..end]);
-        }
-        if p.stopped {
-            return p;
-        }
-        if end == s.len() {
-            return p;
-        }
-        at = end + 1;
-    }
-    p
-}
-
-// Returns the progress after the input's groups. An input that is too long, or has no vectors, is refused.
-fn run_input(s: &[u8]) -> Progress {
-    let none = Tally(0, 0);
-    let first = Progress {
-        begun: false,
-        stopped: false,
-        name: 0,
-        name_end: 0,
-        group: none,
-        total: none,
-        room: none,
-        damaged: none,
-    };
-    if s.len() == INPUT_ROOM {
-        io::write_all(
-            STDERR_FILENO,
-            b"vectors: the input has more than 16383 bytes\n",
-        );
-        return stop(first);
-    }
-    let last = run_lines(first, s);
-    if last.group.1 == 0 && last.total.1 == 0 {
-        io::write_all(STDERR_FILENO, b"vectors: the input has no vectors\n");
-        return stop(last);
-    }
-    last
 }
 
 // Writes what was counted beside the vectors, as groups of their own.
@@ -292,11 +238,17 @@ fn run_rules(total: Tally) -> Tally {
 fn main() {
     let mut input = [0u8; INPUT_ROOM];
     let got = io::read_full(STDIN_FILENO, &mut input);
-    let p = run_input(&input[..got]);
-    let total = close(p, &input[..got]);
-    if p.stopped {
-        verdict(total);
-        return;
+    let mut p = Progress {
+        name: None,
+        group: NONE,
+        total: NONE,
+        room: NONE,
+        damaged: NONE,
+    };
+    let run = p.run_input(&input[..got]);
+    let total = p.close();
+    match run {
+        Ok(()) => verdict(run_rules(run_beside(total, p))),
+        Err(Malformed) => verdict(total),
     }
-    verdict(run_rules(run_beside(total, p)));
 }

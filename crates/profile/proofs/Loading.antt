@@ -1,55 +1,56 @@
--- Reading records at positions of a profile, and storing those of a profile that is accepted.
+-- Judging the record that bytes begin with, and storing those of a profile that is accepted.
 use mathlib.Core.Path.{◌≡◌, refl, sym, ap, ap₂, ◌∙◌}
 use mathlib.Core.Bool.{Bool, true, false, cond}
 use mathlib.Core.List.{List, [], ◌∷◌}
 use Prim.Native.Nat.{ℕ, suc, ◌+◌, ◌-◌, ◌/◌, ◌≤◌, ◌<◌}
 use native.Mathlib.Omega.{arith}
 use lib.ListN.{length, get_or, drop, length-drop}
-use lib.Seq.{get_or-drop, drop-drop}
 use lib.Dec.{eqb}
-use borrow.Author.Tests.{eq-eqb, ne_eqb}
+use borrow.Author.Tests.{eqb-true, eq-eqb, ne_eqb}
 use Rattle.message_rules.specs.Answer.{done, code_not_allowed, value_too_large, broken_record}
 use Rattle.codes.specs.Codes.{all_codes, member}
 use Rattle.settings_rules.specs.Settings.{exceeds_maximum}
 use Rattle.settings_rules.specs.Entries.{entry_of}
 use Rattle.settings_rules.specs.Values.{with_value}
 use Rattle.settings_rules.specs.declared.Settings.{Settings}
-use Rattle.records.specs.Numbers.{word_at}
-use Rattle.records.proofs.Numbers.{number_dropped}
-use Rattle.records.proofs.Records.{stands_whole}
-use Rattle.profile_form_rules.specs.Records.{record_length, value_kind, record_size, code_in, value_in, begins_with_record}
+use Rattle.message_rules.specs.Refusal.{number_of}
+use Rattle.message_rules.specs.declared.refusal.Refusal.{Refusal}
+use Rattle.message_rules.specs.declared.refusal.RefusedAt.{RefusedAt}
+use Rattle.profile_form_rules.specs.Records.{record_size, code_in, value_in, begins_with_record}
+use Rattle.profile_form_rules.specs.declared.Setting.{Setting}
+use Rattle.profile_form_rules.proofs.Records.{whole}
+use Rattle.profile_form_rules.proofs.Judging.{refusal-is-none}
 use Rattle.profile_rules.specs.Profile.{codes_from, profile_codes, record_answer, answer_to, judge, judge_profile, stored, load_as, load_profile}
-use Rattle.profile_form_rules.specs.declared.Judged.{Judged}
-use Rattle.profile_rules.specs.declared.Loaded.{Loaded}
+use Rattle.profile_form_rules.specs.Form.{First, Judged, refused_as}
 use Rattle.profile_rules.proofs.Records.{accepted-fits}
 use Rattle.profile_rules.proofs.Rising.{Found}
 use Rattle.profile_rules.proofs.Judging.{judge-next, judge_stops, judge-step, judged-length}
-use Rattle.profile.specs.Parts.{judged_at, stored_records}
+use Rattle.profile.specs.Parts.{stored_records}
 
--- ---- at a position
+-- ---- one record
 
--- the answers of `record_answer`
-module _ (s : List ℕ) (at c m : ℕ) (k : Bool) where
-  pub answer-broken : begins_with_record (drop at s) ≡ false → broken_record ≡ record_answer c k m (drop at s)
+-- the answers to what bytes begin with
+module _ (bytes : List ℕ) (c m : ℕ) (k : Bool) where
+  pub answer_broken : begins_with_record bytes ≡ false → record_answer c k m bytes ≡ broken_record
   unfolding record_answer
-  answer-broken e = rw e
+  answer_broken e = rw e
 
-  pub answer-code : begins_with_record (drop at s) ≡ true → (get_or s (at + 4) 0 ≡ c → ⊥) → code_not_allowed ≡ record_answer c k m (drop at s)
-  unfolding record_answer
-  answer-code e q = rw (e, ne_eqb (code_in (drop at s)) c (λ z. q (sym (get_or-drop at s 4 0) ∙ z)))
+  module _ (e : Setting) (behind : List ℕ) (f : First bytes e behind) where
+    pub answer_code : (e.code ≡ c → ⊥) → record_answer c k m bytes ≡ code_not_allowed
+    unfolding record_answer
+    answer_code q = rw (f.is_record, ne_eqb (code_in bytes) c (λ z. q (ap (λ (x : Setting). x.code) f.says ∙ z)))
 
-  pub answer-value : (t : Bool) → begins_with_record (drop at s) ≡ true → get_or s (at + 4) 0 ≡ c → t ≡ exceeds_maximum k m (word_at s (at + 5))
-      → cond t value_too_large done ≡ record_answer c k m (drop at s)
-  unfolding record_answer
-  answer-value t e q h =
-      rw (e, eq-eqb (code_in (drop at s)) c (get_or-drop at s 4 0 ∙ q))
-      (ap (λ (b : Bool). cond b value_too_large done) (h ∙ ap (exceeds_maximum k m) (sym (number_dropped 2 s at 5))))
+    pub answer_value : (t : Bool) → e.code ≡ c → t ≡ exceeds_maximum k m e.value → record_answer c k m bytes ≡ cond t value_too_large done
+    unfolding record_answer
+    answer_value t q h =
+        rw (f.is_record, eq-eqb (code_in bytes) c (sym (ap (λ (x : Setting). x.code) f.says) ∙ q))
+        (ap (λ (b : Bool). cond b value_too_large done) (ap (exceeds_maximum k m) (sym (ap (λ (x : Setting). x.value) f.says)) ∙ sym h))
 
 -- the answer to a record, from what is kept of its code
-pub answer_from : (s : Settings) (bytes : List ℕ) (k i a : ℕ) (b : Bool) → a ≡ record_answer k b (get_or s.maximum i 0) bytes → b ≡ member s.continuous k → i ≡ k
-    → a ≡ answer_to s k bytes
+pub answer_from : (s : Settings) (bytes : List ℕ) (k i a : ℕ) (b : Bool) → record_answer k b (get_or s.maximum i 0) bytes ≡ a → b ≡ member s.continuous k → i ≡ k
+    → answer_to s k bytes ≡ a
 unfolding answer_to entry_of
-answer_from s bytes k i a b e q r = e ∙ ap₂ (λ (t : Bool) (n : ℕ). record_answer k t (get_or s.maximum n 0) bytes) q r
+answer_from s bytes k i a b e q r = sym (ap₂ (λ (t : Bool) (n : ℕ). record_answer k t (get_or s.maximum n 0) bytes) q r) ∙ e
 
 -- ---- storing
 
@@ -71,98 +72,98 @@ all_stored s t cs at bytes a =
     ap (λ (n : ℕ). stored_records n t bytes) e ∙ stored_as s t cs at bytes a
 
 -- one more record, and none
-pub store_next : (s : Settings) (p : List ℕ) (at : ℕ) → at + record_size ≤ length p
-    → stored_records ((length p - at) / record_size) s (drop at p)
-    ≡ stored_records ((length p - (at + record_size)) / record_size) (with_value s (get_or p (at + 4) 0) (word_at p (at + 5))) (drop (at + record_size) p)
+pub store_next : (s : Settings) (left : List ℕ) → record_size ≤ length left
+    → stored_records (length left / record_size) s left ≡ stored_records (length (drop record_size left) / record_size) (with_value s (code_in left) (value_in left)) (drop record_size left)
 unfolding stored_records
-store_next s p at h =
-    let e : (length p - at) / record_size ≡ suc ((length p - (at + record_size)) / record_size) = omega arith in
-    let m = (length p - (at + record_size)) / record_size in
-    ap (λ (n : ℕ). stored_records n s (drop at p)) e
-    ∙ ap (λ (c : ℕ). stored_records m (with_value s c (value_in (drop at p))) (drop record_size (drop at p))) (get_or-drop at p 4 0)
-    ∙ ap₂ (λ (v : ℕ) (b : List ℕ). stored_records m (with_value s (get_or p (at + 4) 0) v) b) (number_dropped 2 p at 5) (drop-drop record_size at p)
+store_next s left h =
+    let e : length left / record_size ≡ suc (length (drop record_size left) / record_size) = omega (arith, length-drop record_size left) in
+    ap (λ (n : ℕ). stored_records n s left) e
 
-pub store_none : (s : Settings) (p : List ℕ) (at : ℕ) → length p - at < record_size → stored_records ((length p - at) / record_size) s (drop at p) ≡ s
+pub store_none : (s : Settings) (left : List ℕ) → length left < record_size → stored_records (length left / record_size) s left ≡ s
 unfolding stored_records
-store_none s p at h = let e : (length p - at) / record_size ≡ 0 = omega arith in rw e
+store_none s left h = let e : length left / record_size ≡ 0 = omega arith in rw e
 
--- a turn of the loop of `store`
-pub store_turn : (s t : Settings) (p : List ℕ) (at i v : ℕ) → at + record_size ≤ length p → i ≡ get_or p (at + 4) 0 → v ≡ word_at p (at + 5)
-    → stored_records ((length p - at) / record_size) s (drop at p) ≡ t
-    → stored_records ((length p - (at + record_size)) / record_size) (with_value s i v) (drop (at + record_size) p) ≡ t
-store_turn s t p at i v h e f q =
-    ap₂ (λ (c w : ℕ). stored_records ((length p - (at + record_size)) / record_size) (with_value s c w) (drop (at + record_size) p)) e f
-    ∙ sym (store_next s p at h) ∙ q
+-- ---- the loop of `judge_profile`: what is still to be judged, from the next code on
 
-pub store_starts : (s : Settings) (p : List ℕ) → stored_records ((length p - 0) / record_size) s p ≡ stored_records (length p / record_size) s p
-store_starts s p = let e : length p - 0 ≡ length p = omega arith in ap (λ (n : ℕ). stored_records (n / record_size) s p) e
+pub record Left (s : Settings) (ws p : List ℕ) (from : ℕ) (left : List ℕ) : Type 0 where
+  pub low : from ≤ all_codes
+  pub inside : length left ≤ length p
+  pub same : judge s (codes_from (member ws) from) (length p - length left) left ≡ judge_profile s p
 
--- ---- the loop of `judge`: what is still to be judged, from the next code on
-
-abbrev pub Left : Settings → (ws p : List ℕ) (at from : ℕ) → Type 0
-Left s ws p at from = judge s (codes_from (member ws) from) at (drop at p) ≡ judge_profile s p
-
-pub left_starts : (s : Settings) (ws p : List ℕ) → codes_from (member ws) 0 ≡ profile_codes s → Left s ws p 0 0
-left_starts s ws p e = ap (λ (cs : List ℕ). judge s cs 0 p) e
+pub left_starts : (s : Settings) (ws p : List ℕ) → codes_from (member ws) 0 ≡ profile_codes s → Left s ws p 0 p
+left_starts s ws p e = record {
+  low = omega arith;
+  inside = omega arith;
+  same = let z : length p - length p ≡ 0 = omega arith in ap₂ (λ (cs : List ℕ) (at : ℕ). judge s cs at p) e z;
+}
 
 -- no code is left: the profile ends here, or it is too long
-judged-end : (s : Settings) (at : ℕ) (bytes : List ℕ) (t : Bool) → eqb (length bytes) 0 ≡ t → judge s [] at bytes ≡ judged_at (cond t done broken_record) at
+judged-end : (s : Settings) (at : ℕ) (bytes : List ℕ) (t : Bool) → eqb (length bytes) 0 ≡ t → judge s [] at bytes ≡ record { answer = cond t done broken_record; position = record { 0 = at } }
 unfolding judge
-judged-end s at bytes t e = ap (λ (b : Bool). judged_at (cond b done broken_record) at) e
+judged-end s at bytes t e = ap (λ (b : Bool). record { answer = cond b done broken_record; position = record { 0 = at } }) e
 
--- a record that is accepted is whole
-pub answered-whole : (s : Settings) (p : List ℕ) (at k : ℕ) → at ≤ length p → answer_to s k (drop at p) ≡ done → at + record_size ≤ length p
-unfolding answer_to
-answered-whole s p at k l a = stands_whole record_length value_kind p at l (accepted-fits k _ _ (drop at p) a).form
+module _ (s : Settings) (ws p : List ℕ) (from : ℕ) (left : List ℕ) (l : Left s ws p from left) where
+  abbrev at : ℕ
+  at = length p - length left
 
-module _ (s : Settings) (ws p : List ℕ) (at from : ℕ) (left : Left s ws p at from) where
-  -- an accepted record
-  left_next : (k : ℕ) → Found (member ws) from k → answer_to s k (drop at p) ≡ done → Left s ws p (at + record_size) (k + 1)
-  left_next k f a =
-      ap (judge s (codes_from (member ws) (k + 1)) (at + record_size)) (sym (drop-drop record_size at p))
-      ∙ sym (judge-next s k (codes_from (member ws) (k + 1)) at (drop at p) a)
-      ∙ ap (λ (cs : List ℕ). judge s cs at (drop at p)) (sym f.codes)
-      ∙ left
+  module _ (k : ℕ) (f : Found (member ws) from k) where
+    next : judge s (k ∷ codes_from (member ws) (k + 1)) at left ≡ judge_profile s p
+    next = ap (λ (cs : List ℕ). judge s cs at left) (sym f.codes) ∙ l.same
 
-  -- what holds after a turn, of the number n behind the code
-  pub left_turn : (k n : ℕ) → Found (member ws) from k → n ≡ k → at ≤ length p → answer_to s k (drop at p) ≡ done
-      → (n + 1 ≤ all_codes) × (at + record_size ≤ length p) × Left s ws p (at + record_size) (n + 1)
-  left_turn k n f e l a = rw e (omega (arith, f.high), answered-whole s p at k l a, left_next k f a)
+    -- an accepted record
+    pub left_turn : answer_to s k left ≡ done → Left s ws p (k + 1) (drop record_size left)
+    unfolding answer_to
+    left_turn a =
+        let fits = accepted-fits k _ _ left a in
+        let size = (whole left fits.form).size in
+        let inside = l.inside in
+        let less = length-drop record_size left in
+        record {
+          low = omega (arith, f.high);
+          inside = omega arith;
+          same = let z : length p - length (drop record_size left) ≡ at + record_size = omega arith in
+              ap (λ (n : ℕ). judge s (codes_from (member ws) (k + 1)) n (drop record_size left)) z
+              ∙ sym (judge-next s k (codes_from (member ws) (k + 1)) at left a)
+              ∙ next;
+        }
 
-  -- a refused one
-  pub left_refused : (k : ℕ) → Found (member ws) from k → (a : ℕ) → a ≡ answer_to s k (drop at p) → (a ≡ done → ⊥) → judged_at a at ≡ judge_profile s p
-  left_refused k f a e q =
-      ap (λ (x : ℕ). judged_at x at) e
-      ∙ sym (judge_stops s k (codes_from (member ws) (k + 1)) at (drop at p) (λ z. q (e ∙ z)))
-      ∙ ap (λ (cs : List ℕ). judge s cs at (drop at p)) (sym f.codes)
-      ∙ left
+    -- a refused one
+    pub left_refused : (r : Refusal) → answer_to s k left ≡ number_of r → record { answer = number_of r; position = record { 0 = at } } ≡ judge_profile s p
+    left_refused r a =
+        ap (λ (x : ℕ). record { answer = x; position = record { 0 = at } }) (sym a)
+        ∙ sym (judge_stops s k (codes_from (member ws) (k + 1)) at left (λ z. refusal-is-none r (sym a ∙ z)))
+        ∙ next
 
   -- no code is left
-  pub left_end : codes_from (member ws) from ≡ [] → at ≡ length p → judged_at done at ≡ judge_profile s p
-  left_end f l =
-      sym (judged-end s at (drop at p) true (eq-eqb _ _ (length-drop at p ∙ omega arith))) ∙ ap (λ (cs : List ℕ). judge s cs at (drop at p)) (sym f) ∙ left
+  module _ (f : codes_from (member ws) from ≡ []) where
+    ends : (t : Bool) → eqb (length left) 0 ≡ t → record { answer = cond t done broken_record; position = record { 0 = at } } ≡ judge_profile s p
+    ends t e = sym (judged-end s at left t e) ∙ ap (λ (cs : List ℕ). judge s cs at left) (sym f) ∙ l.same
 
-  pub left_more : codes_from (member ws) from ≡ [] → at ≤ length p → (at ≡ length p → ⊥) → judged_at broken_record at ≡ judge_profile s p
-  left_more f l q =
-      sym (judged-end s at (drop at p) false (ne_eqb (length (drop at p)) 0 (λ z. q (omega (arith, length-drop at p))))) ∙ ap (λ (cs : List ℕ). judge s cs at (drop at p)) (sym f) ∙ left
+    pub left_end : true ≡ eqb (length left) 0 → record { answer = done; position = record { 0 = length p } } ≡ judge_profile s p
+    left_end e =
+        let none = eqb-true (length left) 0 (sym e) in
+        let z : length p ≡ at = omega arith in
+        ap (λ (n : ℕ). record { answer = done; position = record { 0 = n } }) z ∙ ends true (sym e)
+
+    pub left_more : false ≡ eqb (length left) 0 → record { answer = broken_record; position = record { 0 = at } } ≡ judge_profile s p
+    left_more e = ends false (sym e)
 
 -- ---- what `load` comes to
 
-abbrev loaded_as : Settings → Judged → Loaded
-loaded_as n j = record { settings = n; answer = j.answer; position = j.position }
-
-module _ (s : Settings) (p : List ℕ) (j : Judged) (e : j ≡ judge_profile s p) where
-  load-judged : load_as s j p ≡ load_profile s p
+module _ (s : Settings) (p : List ℕ) where
+  judged : (j : Judged) → j ≡ judge_profile s p → load_as s j p ≡ load_profile s p
   unfolding load_profile
-  load-judged = ap (λ (i : Judged). load_as s i p) e
+  judged j e = ap (λ (i : Judged). load_as s i p) e
 
-  pub load_stored : (n : Settings) → j.answer ≡ done → n ≡ stored_records (length p / record_size) s p
-      → record { settings = n; answer = j.answer; position = j.position } ≡ load_profile s p
+  pub load_stored : (n : Settings) (size : ℕ) → record { answer = done; position = record { 0 = size } } ≡ judge_profile s p → n ≡ stored_records (length p / record_size) s p
+      → record { settings = n; answer = done; position = record { 0 = size } } ≡ load_profile s p
   unfolding load_as
-  load_stored n a f =
-      ap (λ (m : Settings). loaded_as m j) (f ∙ all_stored s s (profile_codes s) 0 p (ap (λ (i : Judged). i.answer) (sym e) ∙ a))
-      ∙ ap (λ (t : Bool). loaded_as (cond t (stored s (profile_codes s) p) s) j) (sym (eq-eqb _ _ a)) ∙ load-judged
+  load_stored n size e f =
+      ap (λ (m : Settings). record { settings = m; answer = done; position = record { 0 = size } }) (f ∙ all_stored s s (profile_codes s) 0 p (ap (λ (i : Judged). i.answer) (sym e)))
+      ∙ judged (record { answer = done; position = record { 0 = size } }) e
 
-  pub load_kept : (j.answer ≡ done → ⊥) → record { settings = s; answer = j.answer; position = j.position } ≡ load_profile s p
+  pub load_kept : (e : RefusedAt) → refused_as e ≡ judge_profile s p → record { settings = s; answer = number_of e.refusal; position = e.position } ≡ load_profile s p
   unfolding load_as
-  load_kept q = ap (λ (t : Bool). loaded_as (cond t (stored s (profile_codes s) p) s) j) (sym (ne_eqb _ _ q)) ∙ load-judged
+  load_kept e q =
+      ap (λ (t : Bool). record { settings = cond t (stored s (profile_codes s) p) s; answer = number_of e.refusal; position = e.position }) (sym (ne_eqb (number_of e.refusal) done (refusal-is-none e.refusal)))
+      ∙ judged (refused_as e) q

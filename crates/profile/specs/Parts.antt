@@ -3,7 +3,6 @@ use Rattle.std.specs.Prelude.{ℕ, zero, suc, List, [], ◌∷◌, get_or, drop}
 use Rattle.std.specs.Int.Bits.{bit_and, bit_or, bit_xor}
 use Rattle.settings_rules.specs.Values.{with_value}
 use Rattle.settings_rules.specs.declared.Settings.{Settings}
-use Rattle.profile_form_rules.specs.declared.Judged.{Judged}
 use Rattle.profile_form_rules.specs.Records.{record_size, code_in, value_in}
 
 -- word i of the set of those codes that are in the sets d, r and w and not in m: the bits of m are set, and turned over after that
@@ -12,10 +11,6 @@ profile_word d r w m i = bit_xor (bit_or (bit_and (bit_and (get_or d i 0) (get_o
 
 unfoldable pub profile_words : (d r w m : List ℕ) → List ℕ
 profile_words d r w m = profile_word d r w m 0 ∷ profile_word d r w m 1 ∷ profile_word d r w m 2 ∷ profile_word d r w m 3 ∷ []
-
--- an answer with a position
-abbrev pub judged_at : (answer at : ℕ) → Judged
-judged_at answer at = record { answer = answer; position = record { 0 = at } }
 
 -- the settings with the values of the first n records, each at the code that it names
 unfoldable pub stored_records : ℕ → Settings → List ℕ → Settings

@@ -1,5 +1,4 @@
 pub mod Merging
-pub mod Walk
-pub mod Records
+pub mod Left
 pub mod Listing
 pub mod Outcomes

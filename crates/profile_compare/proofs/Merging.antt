@@ -5,7 +5,7 @@ use mathlib.Core.List.{List, [], ◌∷◌, ◌++◌, map, append-nil}
 use Prim.Native.Nat.{ℕ, zero, suc, ◌+◌, ◌-◌, ◌≤◌, ◌<◌}
 use native.Mathlib.Omega.{arith}
 use Rattle.codes.specs.Codes.{all_codes}
-use Rattle.profile_form_rules.specs.Form.{Setting}
+use Rattle.profile_form_rules.specs.declared.Setting.{Setting}
 use Rattle.profile_form_rules.specs.Statements.{codes_of, Rising, end, more}
 use Rattle.profile_compare_rules.specs.Compare.{absent, value_of, Difference, differences_from, differences}
 use Rattle.profile_compare_rules.specs.Statements.{difference}

@@ -9,8 +9,10 @@ use lib.Dec.{ltb}
 use borrow.Author.Tests.{ltb-true, ltb-false, le-ltb, le-leb, lt-leb, eq-eqb, ne_eqb}
 use Rattle.codes.specs.Codes.{all_codes}
 use Rattle.message_rules.specs.Answer.{done, wrong_size}
-use Rattle.profile_form_rules.specs.Form.{settings_of, judge_form}
-use Rattle.profile_form_rules.specs.declared.Judged.{Judged}
+use Rattle.message_rules.specs.Refusal.{number_of}
+use Rattle.message_rules.specs.declared.refusal.RefusedAt.{RefusedAt}
+use Rattle.profile_form_rules.proofs.Judging.{refusal-is-none}
+use Rattle.profile_form_rules.specs.Form.{settings_of, refused_as, judge_form}
 use Rattle.profile_compare_rules.specs.Compare.{Difference, Room, room_in, listed_in, Outcome, outcome, refusal, neither, the_first, the_second, list_differences, compare_as, compare_profiles}
 use Rattle.profile_compare_rules.specs.declared.Compared.{Compared}
 use Rattle.profile_compare_rules.proofs.Differences.{lines-few}
@@ -38,16 +40,16 @@ module _ (ds : List Difference) (r : Room) (room : ℕ) (e : room ≡ room_in r)
 
 -- ---- the judgements
 
-module _ (s t : List ℕ) (r : Room) (j : Judged) (e : j ≡ judge_form s) where
-  pub compare_first : (j.answer ≡ done → ⊥) → (x : Compared) → x ≡ refusal j.answer the_first j.position.0 → outcome x r ≡ compare_profiles s t r
+module _ (s t : List ℕ) (r : Room) where
+  pub compare_first : (e : RefusedAt) (x : Compared) → refused_as e ≡ judge_form s → x ≡ refusal (number_of e.refusal) the_first e.position.0 → outcome x r ≡ compare_profiles s t r
   unfolding compare_profiles compare_as
-  compare_first n x f = rw (← e) (rw (ne_eqb j.answer done n) (ap (λ (y : Compared). outcome y r) f))
+  compare_first e x q f = rw (← q) (rw (ne_eqb (number_of e.refusal) done (refusal-is-none e.refusal)) (ap (λ (y : Compared). outcome y r) f))
 
-  module _ (a : j.answer ≡ done) (k : Judged) (g : k ≡ judge_form t) where
-    pub compare-second : (k.answer ≡ done → ⊥) → (x : Compared) → x ≡ refusal k.answer the_second k.position.0 → outcome x r ≡ compare_profiles s t r
+  module _ (a : (judge_form s).answer ≡ done) where
+    pub compare_second : (e : RefusedAt) (x : Compared) → refused_as e ≡ judge_form t → x ≡ refusal (number_of e.refusal) the_second e.position.0 → outcome x r ≡ compare_profiles s t r
     unfolding compare_profiles compare_as
-    compare-second n x f = rw (← e, ← g) (rw (eq-eqb j.answer done a, ne_eqb k.answer done n) (ap (λ (y : Compared). outcome y r) f))
+    compare_second e x q f = rw (eq-eqb (judge_form s).answer done a, ← q) (rw (ne_eqb (number_of e.refusal) done (refusal-is-none e.refusal)) (ap (λ (y : Compared). outcome y r) f))
 
-    pub compare-both : k.answer ≡ done → (o : Outcome) → o ≡ list_differences (list_of s t) r → o ≡ compare_profiles s t r
+    pub compare_both : (judge_form t).answer ≡ done → (o : Outcome) → o ≡ list_differences (list_of s t) r → o ≡ compare_profiles s t r
     unfolding compare_profiles compare_as
-    compare-both b o f = rw (← e, ← g) (rw (eq-eqb j.answer done a, eq-eqb k.answer done b) f)
+    compare_both b o f = rw (eq-eqb (judge_form s).answer done a, eq-eqb (judge_form t).answer done b) f

@@ -9,7 +9,7 @@ use native.Mathlib.Omega.{arith}
 use lib.ListN.{length}
 use lib.Dec.{eqb}
 use borrow.Author.Tests.{eqb-true, eqb-false, eq-eqb, ne_eqb}
-use Rattle.profile_form_rules.specs.Form.{Setting}
+use Rattle.profile_form_rules.specs.declared.Setting.{Setting}
 use Rattle.profile_form_rules.specs.Statements.{Rising, end, more, Stands, here, later}
 use Rattle.profile_compare_rules.specs.Compare.{value_of, Difference, differences_from, turned_value}
 use Rattle.profile_compare_rules.specs.Statements.{difference, listed_codes}

@@ -11,7 +11,8 @@ use lib.ListN.{length, get_or, replicate}
 use lib.Dec.{leb, eqb}
 use Rattle.checksum.specs.Bytes.{Bytes, none, more}
 use Rattle.records.specs.Records.{begins_with}
-use Rattle.profile_form_rules.specs.Form.{Setting, settings_in, settings_of, bytes_of, record_fits, judge_records, judge_form}
+use Rattle.profile_form_rules.specs.Form.{settings_in, settings_of, bytes_of, record_fits, judge_records, judge_form}
+use Rattle.profile_form_rules.specs.declared.Setting.{Setting}
 use Rattle.profile_form_rules.specs.Statements.{record_then}
 use Rattle.profile_form_rules.proofs.Theorems as form
 use Rattle.profile_compare_rules.specs.Compare.{absent, value_of, Difference, differences_from, differences, Room, room_in, listed_in, Outcome, refused_with, list_differences, compare_as, compare_profiles, turned_value, settings_by}

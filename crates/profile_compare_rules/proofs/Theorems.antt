@@ -11,7 +11,8 @@ use borrow.Author.Tests.{leb-true, leb-false, le-leb, eqb-true, eqb-false}
 use Rattle.buffers.specs.Buffers.{over}
 use Rattle.checksum.specs.Bytes.{Bytes}
 use Rattle.codes.specs.Codes.{all_codes}
-use Rattle.profile_form_rules.specs.Form.{Setting, settings_of, bytes_of, judge_form}
+use Rattle.profile_form_rules.specs.Form.{settings_of, bytes_of, judge_form}
+use Rattle.profile_form_rules.specs.declared.Setting.{Setting}
 use Rattle.profile_form_rules.specs.Statements.{codes_of, Rising, Stands, IsProfile, RefusedAt}
 use Rattle.profile_form_rules.proofs.Theorems as form
 use Rattle.profile_compare_rules.specs.Compare.{absent, value_of, Difference, differences_from, differences, Room, room_in, listed_in, Outcome, refused_with, list_differences, compare_as, compare_profiles, turned_value, turned}

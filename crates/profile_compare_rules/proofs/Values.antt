@@ -11,7 +11,7 @@ use lib.Dec.{eqb}
 use borrow.Author.Tests.{eqb-true, eqb-false, eq-eqb, ne_eqb}
 use Rattle.checksum.specs.Bytes.{Bytes}
 use Rattle.checksum.proofs.Bytes.{bytes-at, bytes_drop}
-use Rattle.profile_form_rules.specs.Form.{Setting}
+use Rattle.profile_form_rules.specs.declared.Setting.{Setting}
 use Rattle.profile_form_rules.specs.Statements.{Records, none, one, codes_of, Rising, end, more, Stands, here, later}
 use Rattle.profile_compare_rules.specs.Compare.{absent, value_of, settings_by}
 use Rattle.profile_compare_rules.specs.Statements.{Shows}

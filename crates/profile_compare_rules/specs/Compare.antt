@@ -3,8 +3,8 @@ use Rattle.std.specs.Prelude.{ℕ, zero, suc, min, cond, List, [], ◌∷◌, ma
 use Rattle.buffers.specs.Buffers.{over}
 use Rattle.codes.specs.Codes.{all_codes}
 use Rattle.message_rules.specs.Answer.{done, wrong_size}
-use Rattle.profile_form_rules.specs.Form.{Setting, settings_of, bytes_of, judge_form}
-use Rattle.profile_form_rules.specs.declared.Judged.{Judged}
+use Rattle.profile_form_rules.specs.Form.{Judged, settings_of, bytes_of, judge_form}
+use Rattle.profile_form_rules.specs.declared.Setting.{Setting}
 use Rattle.profile_compare_rules.specs.declared.Compared.{Compared}
 
 -- ---- the differences

@@ -2,7 +2,7 @@
 -- parameter: proofs/ proves it of Compare.antt's, and refutes it of wrong ones.
 use Rattle.std.specs.Prelude.{ℕ, zero, suc, ◌≤◌, ◌≡◌, List, [], ◌∷◌, ◌++◌, map, length, get_or, take, drop}
 use Rattle.checksum.specs.Bytes.{Bytes}
-use Rattle.profile_form_rules.specs.Form.{Setting}
+use Rattle.profile_form_rules.specs.declared.Setting.{Setting}
 use Rattle.profile_form_rules.specs.Statements.{Stands, Rising, IsProfile, RefusedAt}
 use Rattle.profile_compare_rules.specs.Compare.{Difference, Room, Outcome}
 use Rattle.profile_compare_rules.specs.declared.Compared.{Compared}

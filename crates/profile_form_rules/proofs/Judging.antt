@@ -8,10 +8,13 @@ use lib.ListN.{length, get_or, drop}
 use lib.Dec.{leb}
 use borrow.Author.Tests.{leb-true, leb-false, le-leb, lt-leb}
 use Rattle.message_rules.specs.Answer.{done, broken_record}
+use Rattle.message_rules.specs.Refusal.{number_of}
+use Rattle.message_rules.specs.declared.refusal.Refusal.{Refusal}
+use Rattle.message_rules.specs.declared.refusal.Refusal.TheVariants as refusal
 use Rattle.profile_form_rules.specs.Records.{record_size, code_in, begins_with_record}
-use Rattle.profile_form_rules.specs.Form.{Setting, record_fits, judge_records, begun_in}
+use Rattle.profile_form_rules.specs.Form.{Judged, record_fits, judge_records, begun_in}
+use Rattle.profile_form_rules.specs.declared.Setting.{Setting}
 use Rattle.profile_form_rules.specs.Statements.{record_then, setting_said, Records, none, one, Rising, codes_of, end, more, Bad, broken, not_above}
-use Rattle.profile_form_rules.specs.declared.Judged.{Judged}
 use Rattle.profile_form_rules.proofs.Records.{begun, begins-with, begins-none}
 use Rattle.profile_form_rules.proofs.Profiles.{lowest_after, stands_below, below_stands}
 
@@ -20,6 +23,29 @@ accepted_at at = record { answer = done; position = record { 0 = at } }
 
 abbrev pub refused_at : ℕ → Judged
 refused_at at = record { answer = broken_record; position = record { 0 = at } }
+
+-- no refusal has the answer number 0
+pub refusal-is-none : (r : Refusal) → number_of r ≡ done → ⊥
+refusal-is-none refusal.WrongSize e = omega arith
+refusal-is-none refusal.TooShort e = omega arith
+refusal-is-none refusal.WrongFirstByte e = omega arith
+refusal-is-none refusal.WrongLength e = omega arith
+refusal-is-none refusal.WrongChecksum e = omega arith
+refusal-is-none refusal.UnknownCommand e = omega arith
+refusal-is-none refusal.WrongField e = omega arith
+refusal-is-none refusal.CodeNotAllowed e = omega arith
+refusal-is-none refusal.ValueTooLarge e = omega arith
+refusal-is-none refusal.NotWanted e = omega arith
+refusal-is-none refusal.TextTooLong e = omega arith
+refusal-is-none refusal.NullMessage e = omega arith
+refusal-is-none refusal.WrongGrammar e = omega arith
+refusal-is-none refusal.NoNodeRoom e = omega arith
+refusal-is-none refusal.TooDeep e = omega arith
+refusal-is-none refusal.TransferClosed e = omega arith
+refusal-is-none refusal.BrokenRecord e = omega arith
+refusal-is-none refusal.NotDeclarable e = omega arith
+refusal-is-none refusal.RepeatedToken e = omega arith
+refusal-is-none refusal.RepeatedHousehold e = omega arith
 
 -- ---- one record
 

@@ -10,7 +10,8 @@ use borrow.Author.Tests.{leb-true, leb-false}
 use Rattle.checksum.specs.Bytes.{Bytes}
 use Rattle.checksum.proofs.Bytes.{bytes-at, bytes_drop}
 use Rattle.records.proofs.Numbers.{low_first, low-high}
-use Rattle.profile_form_rules.specs.Form.{Setting, settings_in, bytes_of}
+use Rattle.profile_form_rules.specs.Form.{settings_in, bytes_of}
+use Rattle.profile_form_rules.specs.declared.Setting.{Setting}
 use Rattle.profile_form_rules.specs.Statements.{setting_said, Records, none, one, Rising, codes_of, end, more, Stands, here, later}
 
 -- ---- the records

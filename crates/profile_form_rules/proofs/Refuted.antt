@@ -11,9 +11,9 @@ use lib.Dec.{leb, eqb}
 use Rattle.records.specs.Numbers.{word_at}
 use Rattle.records.specs.Records.{begins_with}
 use Rattle.profile_form_rules.specs.Records.{record_size, code_in}
-use Rattle.profile_form_rules.specs.Form.{Setting, settings_in, settings_of, bytes_of, record_fits, judge_records, begun_in, judge_form}
+use Rattle.profile_form_rules.specs.Form.{Judged, settings_in, settings_of, bytes_of, record_fits, judge_records, begun_in, judge_form}
+use Rattle.profile_form_rules.specs.declared.Setting.{Setting}
 use Rattle.profile_form_rules.specs.Statements.{record_then, JudgeRule, ReadRule, AcceptsExactly, FirstRefused, ReadAndWritten}
-use Rattle.profile_form_rules.specs.declared.Judged.{Judged}
 use Rattle.profile_form_rules.proofs.Judging.{accepted_at, refused_at}
 use Rattle.profile_form_rules.proofs.Theorems.{accepts-exactly, read_and_written, first-refused}
 

@@ -7,9 +7,9 @@ use lib.ListN.{length, take, drop, take-append-drop}
 use lib.Seq.{take_all}
 use Rattle.checksum.specs.Bytes.{Bytes}
 use Rattle.profile_form_rules.specs.Records.{record_size}
-use Rattle.profile_form_rules.specs.Form.{Setting, settings_in, settings_of, bytes_of, judge_records, begun_in, judge_form}
+use Rattle.profile_form_rules.specs.Form.{Judged, settings_in, settings_of, bytes_of, judge_records, begun_in, judge_form}
+use Rattle.profile_form_rules.specs.declared.Setting.{Setting}
 use Rattle.profile_form_rules.specs.Statements.{record_then, Records, none, one, IsProfile, SomeProfile, AcceptsExactly, OnlySettings, ReadAndWritten, Bad, broken, not_above, RefusedAt, FirstRefused, AtMost256, LongCut}
-use Rattle.profile_form_rules.specs.declared.Judged.{Judged}
 use Rattle.profile_form_rules.proofs.Profiles.{records_size, records_read, records_written, written_records, lowest_after, rising-fits}
 use Rattle.profile_form_rules.proofs.Judging.{accepted_at, refused_at, unfit, bad_unfit, unfit_bad, passes, Walked, all, first, walked}
 

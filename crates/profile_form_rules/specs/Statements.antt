@@ -2,8 +2,8 @@
 -- statement takes the rule as a parameter: proofs/ proves it of Form.antt's, and refutes it of wrong ones.
 use Rattle.std.specs.Prelude.{ℕ, suc, ◌+◌, ◌*◌, ◌≤◌, ◌<◌, ◌≡◌, List, [], ◌∷◌, map, length, take}
 use Rattle.checksum.specs.Bytes.{Bytes}
-use Rattle.profile_form_rules.specs.Form.{Setting}
-use Rattle.profile_form_rules.specs.declared.Judged.{Judged}
+use Rattle.profile_form_rules.specs.Form.{Judged}
+use Rattle.profile_form_rules.specs.declared.Setting.{Setting}
 
 -- ---- records
 

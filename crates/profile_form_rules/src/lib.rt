@@ -2,8 +2,6 @@
 // What they mean stands in specs/, and the theorems in proofs/.
 #![tactic(auto)]
 
-use message_rules::Position;
-
 // The bytes of a record of kind 1.
 pub const RECORD_SIZE: usize = 7;
 
@@ -22,11 +20,9 @@ pub const VALUE_AT: usize = 5;
 // A display writes one record less, since F4 is the table.
 pub const LONGEST_PROFILE: usize = 1792;
 
-// How a profile is judged.
+// What a record says: a code and its value.
 #[derive(Clone, Copy)]
-pub struct Judged {
-    // The answer number.
-    pub answer: u8,
-    // The position that the papers give with a refusal; after answer 0 the end of the profile.
-    pub position: Position,
+pub struct Setting {
+    pub code: u8,
+    pub value: u16,
 }

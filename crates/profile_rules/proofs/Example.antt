@@ -21,8 +21,8 @@ use Rattle.records.specs.Numbers.{little_endian}
 use Rattle.records.specs.Records.{begins_with}
 use Rattle.profile_rules.specs.Profile.{in_profile, profile_code, profile_codes, rising, records_of, profile_of, record_answer, answer_to, judge, stored, load_as, load_profile}
 use Rattle.profile_rules.specs.Statements.{code10, only10, bytes10, Profile10}
-use Rattle.profile_form_rules.specs.declared.Judged.{Judged}
-use Rattle.profile_rules.specs.declared.Loaded.{Loaded}
+use Rattle.profile_form_rules.specs.Form.{Judged}
+use Rattle.profile_rules.specs.Profile.{Loaded}
 use Rattle.profile_rules.proofs.Rising.{rising_ext}
 
 accepted : (declare_code empty_settings code10).answer ≡ done

@@ -11,7 +11,7 @@ use lib.ListN.{length}
 use lib.Dec.{eqb}
 use borrow.Author.Tests.{eq-eqb, ne_eqb}
 use Rattle.codes.specs.Codes.{all_codes, member, how_many, count_of, first_of, next_of}
-use Rattle.codes.specs.declared.Next.TheVariants.{Code, Nothing}
+use Rattle.std.specs.Prelude.{Some, None}
 use Rattle.codes.proofs.Counting.{how_many_ext, how_many_add, how_many-start}
 use Rattle.profile_rules.specs.Profile.{rising, codes_from}
 
@@ -58,14 +58,14 @@ pub record Found (p : ℕ → Bool) (from k : ℕ) : Type 0 where
   pub inside : p k ≡ true
   pub codes : codes_from p from ≡ k ∷ codes_from p (k + 1)
 
-found : (p : ℕ → Bool) (n c k : ℕ) → c + n ≡ all_codes → first_of p n c ≡ Code k
+found : (p : ℕ → Bool) (n c k : ℕ) → c + n ≡ all_codes → first_of p n c ≡ Some k
     → (c ≤ k) × (k < all_codes) × (p k ≡ true) × (rising p n c ≡ k ∷ codes_from p (k + 1))
 unfolding first_of rising
 found p zero c k e f = let z : ◌≡◌ {A = ℕ} 0 1 = cc in absurd (omega arith)
 found p (suc n) c k e f = go (p c) refl f (found p n (suc c) k (omega arith))
   where
-    go : (t : Bool) → p c ≡ t → cond t (Code c) (first_of p n (suc c)) ≡ Code k
-        → (first_of p n (suc c) ≡ Code k → (suc c ≤ k) × (k < all_codes) × (p k ≡ true) × (rising p n (suc c) ≡ k ∷ codes_from p (k + 1)))
+    go : (t : Bool) → p c ≡ t → cond t (Some c) (first_of p n (suc c)) ≡ Some k
+        → (first_of p n (suc c) ≡ Some k → (suc c ≤ k) × (k < all_codes) × (p k ≡ true) × (rising p n (suc c) ≡ k ∷ codes_from p (k + 1)))
         → (c ≤ k) × (k < all_codes) × (p k ≡ true) × (cond t (c ∷ rising p n (suc c)) (rising p n (suc c)) ≡ k ∷ codes_from p (k + 1))
     go true q f ih =
         let same : c ≡ k = cc in
@@ -74,25 +74,25 @@ found p (suc n) c k e f = go (p c) refl f (found p n (suc c) k (omega arith))
         (omega arith, omega arith, ap p (sym same) ∙ q, rw (left, next, same))
     go false q f ih = let r = ih f in (omega (arith, r.0), r.1, r.2, r.3)
 
-pub next-found : (ws : List ℕ) (from k : ℕ) → from ≤ all_codes → Code k ≡ next_of ws from → Found (member ws) from k
+pub next-found : (ws : List ℕ) (from k : ℕ) → from ≤ all_codes → Some k ≡ next_of ws from → Found (member ws) from k
 unfolding next_of
 next-found ws from k h e =
     let r = found (member ws) (all_codes - from) from k (omega arith) (sym e) in
     record { low = r.0; high = r.1; inside = r.2; codes = r.3 }
 
-none_left : (p : ℕ → Bool) (n c : ℕ) → first_of p n c ≡ Nothing → rising p n c ≡ []
+none_left : (p : ℕ → Bool) (n c : ℕ) → first_of p n c ≡ None → rising p n c ≡ []
 unfolding first_of rising
 none_left p zero c f = refl
 none_left p (suc n) c f = go (p c) f (none_left p n (suc c))
   where
-    go : (t : Bool) → cond t (Code c) (first_of p n (suc c)) ≡ Nothing → (first_of p n (suc c) ≡ Nothing → rising p n (suc c) ≡ [])
+    go : (t : Bool) → cond t (Some c) (first_of p n (suc c)) ≡ None → (first_of p n (suc c) ≡ None → rising p n (suc c) ≡ [])
         → cond t (c ∷ rising p n (suc c)) (rising p n (suc c)) ≡ []
     go true f ih = let z : ◌≡◌ {A = ℕ} 0 1 = cc in absurd (omega arith)
     go false f ih = ih f
 
-pub next-nothing : (ws : List ℕ) (from : ℕ) → Nothing ≡ next_of ws from → codes_from (member ws) from ≡ []
+pub next-none : (ws : List ℕ) (from : ℕ) → None ≡ next_of ws from → codes_from (member ws) from ≡ []
 unfolding next_of
-next-nothing ws from e = none_left (member ws) (all_codes - from) from (sym e)
+next-none ws from e = none_left (member ws) (all_codes - from) from (sym e)
 
 -- ---- as a list
 

@@ -16,7 +16,7 @@ use Rattle.profile_rules.specs.Profile.{record_answer, answer_to, judge}
 use Rattle.profile_form_rules.specs.Statements.{record_then}
 use Rattle.profile_rules.specs.Operations.{end, Judges, JudgesOnce}
 use Rattle.profile_rules.specs.Operations as says
-use Rattle.profile_form_rules.specs.declared.Judged.{Judged}
+use Rattle.profile_form_rules.specs.Form.{Judged}
 use Rattle.profile_form_rules.proofs.Records.{begun, begins-with, begins-none}
 use Rattle.profile_rules.proofs.Judging.{judge-next, judge_stops}
 

@@ -18,7 +18,7 @@ use Rattle.settings_rules.proofs.Answers.{not_exceeding}
 use Rattle.profile_form_rules.specs.Records.{value_record, record_size}
 use Rattle.profile_rules.specs.Profile.{in_profile, profile_code, profile_codes, records_of, profile_of, judge, judge_profile, stored, load_as, load_profile}
 use Rattle.profile_rules.specs.Statements.{OneRecordEach, Alike, WrittenLoads, WrittenComesBack, LoadedWrites, LoadSetsBoth, RefusedLoadKeeps, ExtraBytesRefused, ShortProfileRefused, LoadKeepsSound}
-use Rattle.profile_form_rules.specs.declared.Judged.{Judged}
+use Rattle.profile_form_rules.specs.Form.{Judged}
 use Rattle.profile_rules.proofs.Records.{records_length}
 use Rattle.profile_rules.proofs.Rising.{rising_ext, rising_rises, has_rising}
 use Rattle.profile_rules.proofs.Judging.{judge_alike, judge-records, judge-cut}

@@ -8,7 +8,7 @@ use Rattle.settings_rules.specs.Values.{entry_value}
 use Rattle.settings_rules.specs.declared.Settings.{Settings}
 use Rattle.profile_form_rules.specs.Statements.{record_then}
 use Rattle.profile_rules.specs.Profile.{profile_codes, Outcome}
-use Rattle.profile_rules.specs.declared.Loaded.{Loaded}
+use Rattle.profile_rules.specs.Profile.{Loaded}
 
 -- ---- the codes
 

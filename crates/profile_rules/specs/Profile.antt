@@ -1,7 +1,11 @@
 -- Document 01, "Settings sheet": what writing a profile and loading one do.
-use Rattle.std.specs.Prelude.{ℕ, zero, suc, ◌+◌, ◌-◌, Bool, cond, not, ◌&&◌, List, [], ◌∷◌, ◌++◌, length, get_or, drop, leb, eqb}
+use Rattle.std.specs.Prelude.{ℕ, zero, suc, ◌+◌, ◌-◌, Bool, cond, not, ◌&&◌, Result, Ok, Err, List, [], ◌∷◌, ◌++◌, length, get_or, drop, leb, eqb}
 use Rattle.buffers.specs.Buffers.{over}
 use Rattle.message_rules.specs.Answer.{done, wrong_size, code_not_allowed, value_too_large, broken_record}
+use Rattle.message_rules.specs.Refusal.{number_of}
+use Rattle.message_rules.specs.declared.Position.{Position}
+use Rattle.message_rules.specs.declared.refusal.Refusal.{Refusal}
+use Rattle.message_rules.specs.declared.refusal.RefusedAt.{RefusedAt}
 use Rattle.codes.specs.Codes.{all_codes}
 use Rattle.settings_rules.specs.Settings.{exceeds_maximum}
 use Rattle.settings_rules.specs.Entries.{Entry, entry_of}
@@ -9,8 +13,7 @@ use Rattle.settings_rules.specs.Values.{with_value}
 use Rattle.settings_rules.specs.declared.Settings.{Settings}
 use Rattle.profile_form_rules.specs.Records.{value_record, record_size, code_in, value_in, begins_with_record}
 use Rattle.profile_rules.specs.declared.Written.{Written}
-use Rattle.profile_rules.specs.declared.Loaded.{Loaded}
-use Rattle.profile_form_rules.specs.declared.Judged.{Judged}
+use Rattle.profile_form_rules.specs.Form.{Judged}
 
 -- ---- the codes of a profile
 
@@ -43,6 +46,11 @@ records_of values (c ∷ cs) = value_record c (get_or values c 0) ++ records_of 
 -- "saved value": the profile of these settings
 abbrev pub profile_of : Settings → List ℕ
 profile_of s = records_of s.saved (profile_codes s)
+
+-- what the function returns that writes: the length written, or a refusal
+abbrev pub written_as : Result ℕ Refusal → Written
+written_as (Ok n) = record { answer = done; len = n }
+written_as (Err r) = record { answer = number_of r; len = 0 }
 
 -- the answer with the length written, and the output afterwards; "Bytes of an output beyond the reply length stay."
 pub record Outcome : Type 0 where
@@ -83,6 +91,17 @@ judge s (c ∷ cs) at bytes =
 unfoldable pub stored : Settings → (cs bytes : List ℕ) → Settings
 stored s [] bytes = s
 stored s (c ∷ cs) bytes = stored (with_value s c (value_in bytes)) cs (drop record_size bytes)
+
+-- the settings afterwards, the answer number, and the position that document 01 gives with a refusal; after answer 0 the end of the profile
+pub record Loaded : Type 0 where
+  pub settings : Settings
+  pub answer : ℕ
+  pub position : Position
+
+-- what the function returns that loads a profile of so many bytes into the settings s: the settings afterwards, or a refusal and its position
+abbrev pub loaded_as : (s : Settings) (size : ℕ) → Result Settings RefusedAt → Loaded
+loaded_as s size (Ok t) = record { settings = t; answer = done; position = record { 0 = size } }
+loaded_as s size (Err e) = record { settings = s; answer = number_of e.refusal; position = e.position }
 
 -- "or changes nothing"
 unfoldable pub load_as : Settings → Judged → List ℕ → Loaded

@@ -1,4 +1,3 @@
 pub mod Numbers
 pub mod Records
 pub mod Refuted
-pub mod Stores

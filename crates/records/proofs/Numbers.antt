@@ -1,13 +1,13 @@
 -- Numbers as bytes: a number and its bytes give each other back, over the width.
 use mathlib.Core.Path.{◌≡◌, refl, sym, ap, ap₂, ◌∙◌}
 use mathlib.Core.List.{List, [], ◌∷◌, ◌++◌}
-use Prim.Native.Nat.{ℕ, zero, suc, ◌+◌, ◌*◌, ◌/◌, ◌%◌, ◌≤◌, ◌<◌}
+use Prim.Native.Nat.{ℕ, zero, suc, ◌+◌, ◌*◌, ◌/◌, ◌%◌, ◌<◌}
 use native.Mathlib.Nat.{div-add-mod'}
 use native.Mathlib.Omega.{arith}
-use lib.ListN.{length, get_or, take, drop, get_or-eq_default}
+use lib.ListN.{length, get_or, take, drop}
 use lib.Seq.{get_or-append-add, get_or-drop, drop-cons}
 use Rattle.checksum.proofs.Bytes.{bytes-at}
-use Rattle.records.specs.Numbers.{little_endian, number_at, word_at, long_at}
+use Rattle.records.specs.Numbers.{little_endian, number_at}
 use Rattle.records.specs.Statements.{LowFirst, AsWide, NumberBack, BytesBack}
 
 -- ---- where the bytes stand
@@ -96,34 +96,3 @@ low_first = record { two = two; four = four }
         ap₂ (λ (x y : ℕ). x ∷ little_endian 3 y) e f
         ∙ ap₂ (λ (x y : ℕ). a ∷ x ∷ little_endian 2 y) i g
         ∙ ap (λ (t : List ℕ). a ∷ b ∷ t) (two c d l)
-
--- ---- the answers of `word_at` and `long_at`
-
--- no byte is there
-pub none-there : (k : ℕ) (s : List ℕ) (i : ℕ) → length s ≤ i → number_at k s i ≡ 0
-none-there zero s i h = refl
-none-there (suc zero) s i h = get_or-eq_default s 0 {n = i} h
-none-there (suc (suc k)) s i h =
-    ap₂ (λ (x y : ℕ). x + y * 256) (get_or-eq_default s 0 {n = i} h) (none-there (suc k) s (i + 1) (omega arith))
-
-module _ (s : List ℕ) (i r : ℕ) where
-  -- one byte is there
-  pub word_cut : length s ≤ i + 1 → r ≡ get_or s i 0 + 0 * 256 → r ≡ word_at s i
-  word_cut h e = e ∙ ap (λ (y : ℕ). get_or s i 0 + y * 256) (sym (get_or-eq_default s 0 {n = i + 1} h))
-
-  pub word-there : r ≡ get_or s i 0 + get_or s (i + 1) 0 * 256 → r ≡ word_at s i
-  word-there e = e
-
-  -- the indices of the four bytes, counted from the first
-  pub long-there : r ≡ get_or s i 0 + (get_or s (i + 1) 0 + (get_or s (i + 2) 0 + get_or s (i + 3) 0 * 256) * 256) * 256 → r ≡ long_at s i
-  long-there h =
-      let e : i + 2 ≡ i + 1 + 1 = omega arith in
-      let f : i + 3 ≡ i + 1 + 1 + 1 = omega arith in
-      h ∙ ap₂ (λ (x y : ℕ). get_or s i 0 + (get_or s (i + 1) 0 + (get_or s x 0 + get_or s y 0 * 256) * 256) * 256) e f
-
-  -- not all four are there
-  pub long-cut : (x y : ℕ) → length s ≤ i + 3 → x ≡ get_or s (i + 1) 0 → y ≡ get_or s (i + 2) 0
-      → r ≡ get_or s i 0 + (x + (y + 0 * 256) * 256) * 256 → r ≡ long_at s i
-  long-cut x y h e f g =
-      long-there (g ∙ ap₂ (λ (m n : ℕ). get_or s i 0 + (m + (n + 0 * 256) * 256) * 256) e f
-      ∙ ap (λ (n : ℕ). get_or s i 0 + (get_or s (i + 1) 0 + (get_or s (i + 2) 0 + n * 256) * 256) * 256) (sym (get_or-eq_default s 0 {n = i + 3} h)))

@@ -7,7 +7,6 @@ use native.Mathlib.Omega.{arith}
 use lib.ListN.{length, get_or, set, drop, length-set, drop_of_length-le}
 use lib.Seq.{drop-cons}
 use lib.Dec.{eqb}
-use borrow.Author.Tests.{eq-eqb, ne_eqb}
 use Rattle.buffers.specs.Buffers.{over, put}
 use Rattle.buffers.proofs.Puts.{put-none, put-over, put_next, put_sets}
 use Rattle.codes.specs.Codes.{all_codes, member, in_both}
@@ -15,7 +14,7 @@ use Rattle.codes.proofs.Theorems.{both_inside}
 use Rattle.message_rules.specs.Answer.{done, code_not_allowed, value_too_large}
 use Rattle.message_rules.specs.Message.{table_code}
 use Rattle.settings_rules.specs.Settings.{exceeds_maximum, answer_to_set, set_answer, judge_set, set_code, with_present}
-use Rattle.settings_rules.specs.declared.Change.{Change}
+use Rattle.settings_rules.specs.Settings.{Change}
 use Rattle.settings_rules.specs.declared.Settings.{Settings}
 use Rattle.set_all_rules.specs.SetAll.{try_all, left_by_all}
 use Rattle.set_all.specs.Parts.{answer_by, with_presents, left_of}
@@ -124,33 +123,23 @@ module _ (settable momentary continuous maximum present₀ codes values answers�
     pub answer : a ≡ answer_by settable continuous maximum (get_or codes k 0) (get_or values k 0)
 
   module _ (present answers : List ℕ) (k i a : ℕ) (j : Judged present answers k i a) where
-    -- an accepted value is stored where the code is kept; m: whether it is momentary
-    goes_on : (m : Bool) → m ≡ member momentary (get_or codes k 0)
-        → Standing (cond (eqb a done && not m) (set present i (get_or values k 0)) present) (set answers k a) (k + 1)
-    goes_on m f =
+    -- an accepted value is stored where the code is kept
+    pub goes-on : Standing (cond (eqb a done && not (member momentary (get_or codes k 0))) (set present i (get_or values k 0)) present) (set answers k a) (k + 1)
+    goes-on =
         let now = j.standing in
         record {
           reached = omega (arith, j.inside);
           paired = now.paired;
           room = simp length-set now.room;
           same = simp length-set now.same;
-          whole = either (eqb a done && not m);
+          whole = either (eqb a done && not (member momentary (get_or codes k 0)));
           going = λ s t z.
               let c = get_or codes k 0 in
               let said : a ≡ set_answer s c (get_or values k 0) = j.answer ∙ answer-of s settable momentary continuous maximum t c (get_or values k 0) (omega (arith, j.index, j.low)) in
-              let acts : m ≡ member s.momentary c = f ∙ ap (λ (ws : List ℕ). member ws c) (sym t.momentary-is) in
+              let acts : member momentary c ≡ member s.momentary c = ap (λ (ws : List ℕ). member ws c) (sym t.momentary-is) in
               rw (j.index, said, acts) (going_on s codes values answers₀ present answers k j.inside now.paired (omega (arith, j.inside, now.room)) (now.going s t z));
         }
       where
         either : (t : Bool) → length (cond t (set present i (get_or values k 0)) present) ≡ all_codes
         either true = simp length-set j.standing.whole
         either false = j.standing.whole
-
-    pub stores-on : a ≡ done → (m : Bool) → m ≡ member momentary (get_or codes k 0) → m ≡ false → Standing (set present i (get_or values k 0)) (set answers k a) (k + 1)
-    stores-on d m f n = rw (eq-eqb a done d, n) at (goes_on m f)
-
-    pub momentary-on : a ≡ done → (m : Bool) → m ≡ member momentary (get_or codes k 0) → m ≡ true → Standing present (set answers k a) (k + 1)
-    momentary-on d m f n = rw (eq-eqb a done d, n) at (goes_on m f)
-
-    pub refused-on : (a ≡ done → ⊥) → Standing present (set answers k a) (k + 1)
-    refused-on n = rw (ne_eqb a done n) at (goes_on (member momentary (get_or codes k 0)) refl)

@@ -20,7 +20,7 @@ use Rattle.display_rules.specs.Kept.{Kept, keeping, step_kept, with_display}
 use Rattle.display_rules.specs.Operations.{LentRight}
 use Rattle.display_rules.specs.Statements.{Made, stepped}
 use Rattle.display_rules.specs.declared.Display.{Display}
-use Rattle.display_rules.specs.declared.Found.TheVariants.{Nothing}
+use Rattle.std.specs.Prelude.{None}
 use Rattle.display_rules.proofs.Reading.{read_back}
 use Rattle.display_rules.proofs.Operations.{obeys}
 use Rattle.set_all_rules.specs.SetAll.{try_all}
@@ -60,7 +60,7 @@ module _ (c v : ℕ) (h : c < 256) (g : v < 65536) where
         display = display_set now.display c v;
         answer = (set_code now.display.settings c v).answer;
         len = 0;
-        found = Nothing;
+        found = None;
         table = now.table;
         out = out;
       }

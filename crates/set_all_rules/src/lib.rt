@@ -6,7 +6,8 @@
 pub const MOST_SETTINGS: usize = 64;
 
 // What a call leaves of the settings. Of these a Set changes only present values.
-// The values stand first, where they are cheaper to copy.
+// The values stand first, where they are cheaper to copy, and a number beside them: a Result of the array copied 4,608
+// bytes in a call where this copies 2,560.
 #[derive(Clone, Copy)]
 pub struct AllSet {
     // The present values afterwards.

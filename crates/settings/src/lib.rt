@@ -5,17 +5,18 @@
 
 ghost use Rattle.std.specs.Prelude.{◌≡◌, get_or, set};
 ghost use Rattle.codes.specs.Codes.{member, count_of, next_of};
-ghost use Rattle.settings_rules.specs.Settings.{empty_settings, starting_settings, start_with, exceeds_maximum, access_refused, declaration_refused, with_declaration, declare_code, answer_to_set, judge_set, save_all, type_number, get_code};
+ghost use Rattle.message_rules.specs.Refusal.{answer_number};
+ghost use Rattle.settings_rules.specs.Results.{judgement_of, feature_of};
+ghost use Rattle.settings_rules.specs.Settings.{empty_settings, starting_settings, start_with, exceeds_maximum, access_refused, declaration_refused, with_declaration, declare_code, answer_to_set, judge_set, save_all, get_code};
 
-use codes::Next;
 use message_rules::TABLE_CODE;
-use message_rules::answer::{CODE_NOT_ALLOWED, DONE, NOT_DECLARABLE, VALUE_TOO_LARGE};
 use message_rules::fields::status_allowed;
-use settings_rules::{Change, Declaration, Feature, Judgement, MOMENTARY, Settings, Timing};
+use message_rules::refusal::Refusal;
+use settings_rules::{Accepted, Declaration, MOMENTARY, Settings, Shown, Timing};
 
 // Returns settings with the timing and no code.
 #[tactic(auto, unfolding(settings_rules::specs::Settings::starting_settings))]
-fn starting(timing: Timing) -> Settings
+pub fn starting(timing: Timing) -> Settings
     ensures { result ≡ starting_settings timing }
 {
     Settings {
@@ -44,23 +45,15 @@ pub fn empty() -> Settings
     })
 }
 
-// Returns settings with a timing and no code yet.
-// Where a reserved bit of the status is set, it returns 18 and the empty settings.
-pub fn start(timing: Timing) -> Change
-    ensures { result ≡ start_with timing }
+// Allows a start with the timing, or refuses it with 18 where a reserved bit of its status is set.
+// One that is allowed gives `starting`, a refused one `empty`: the settings, which are large, are made once.
+pub fn judge_start(timing: Timing) -> Result<(), Refusal>
+    ensures { answer_number result ≡ (start_with timing).answer }
 {
     if status_allowed(timing.status) {
-        let settings = starting(timing);
-        return Change {
-            answer: DONE,
-            settings: settings,
-        };
+        return Ok(());
     }
-    let settings = empty();
-    Change {
-        answer: NOT_DECLARABLE,
-        settings: settings,
-    }
+    Err(Refusal::NotDeclarable)
 }
 
 // Returns whether the value is above the maximum of a continuous code.
@@ -68,20 +61,14 @@ pub fn start(timing: Timing) -> Change
 pub fn exceeds(continuous: bool, maximum: u16, value: u16) -> bool
     ensures { result ≡ exceeds_maximum continuous maximum value }
 {
-    if continuous { maximum < value } else { false }
+    continuous && maximum < value
 }
 
 // Returns whether a code of this access and type may not be declared.
 fn access_refused(readable: bool, writable: bool, momentary: bool) -> bool
     ensures { result ≡ access_refused readable writable momentary }
 {
-    if writable {
-        return false;
-    }
-    if readable {
-        return momentary;
-    }
-    true
+    !writable && (!readable || momentary)
 }
 
 // Returns whether declaring is refused, of a code that is declared already or not.
@@ -89,27 +76,19 @@ fn access_refused(readable: bool, writable: bool, momentary: bool) -> bool
 fn declaration_refused(declared: bool, d: Declaration) -> bool
     ensures { result ≡ declaration_refused declared d }
 {
-    if d.code == TABLE_CODE {
-        return true;
-    }
-    if declared {
-        return true;
-    }
-    if MOMENTARY < d.kind {
-        return true;
-    }
-    if access_refused(d.readable, d.writable, d.kind == MOMENTARY) {
-        return true;
-    }
-    exceeds(d.continuous, d.maximum, d.present)
+    d.code == TABLE_CODE
+        || declared
+        || MOMENTARY < d.kind
+        || access_refused(d.readable, d.writable, d.kind == MOMENTARY)
+        || exceeds(d.continuous, d.maximum, d.present)
 }
 
 // Returns the settings with the code as it is declared.
 #[tactic(auto, unfolding(settings_rules::specs::Settings::with_declaration))]
-fn with_declaration(mut s: Settings, d: Declaration) -> Settings
+pub fn with_declaration(mut s: Settings, d: Declaration) -> Settings
     ensures { result ≡ with_declaration s d }
 {
-    let i = d.code as usize;
+    let i = usize::from(d.code);
     s.declared = codes::insert(s.declared, d.code);
     s.readable = codes::assign(s.readable, d.code, d.readable);
     s.writable = codes::assign(s.writable, d.code, d.writable);
@@ -121,23 +100,18 @@ fn with_declaration(mut s: Settings, d: Declaration) -> Settings
     s
 }
 
-// Returns the settings with the code declared, or 18 and the same settings.
+// Allows the code to be declared, or refuses it with 18.
+// One that may is declared by `with_declaration`, so that the settings, which are large, are passed on only where they
+// change.
 #[tactic(auto, unfolding(settings_rules::specs::Settings::declare_code))]
-pub fn declare(s: Settings, d: Declaration) -> Change
-    ensures { result ≡ declare_code s d }
+pub fn judge_declaration(s: Settings, d: Declaration) -> Result<(), Refusal>
+    ensures { answer_number result ≡ (declare_code s d).answer }
 {
     let words = s.declared;
-    if declaration_refused(codes::contains(words, d.code), d) {
-        return Change {
-            answer: NOT_DECLARABLE,
-            settings: s,
-        };
+    if declaration_refused(codes::contains(&words, d.code), d) {
+        return Err(Refusal::NotDeclarable);
     }
-    let settings = with_declaration(s, d);
-    Change {
-        answer: DONE,
-        settings: settings,
-    }
+    Ok(())
 }
 
 // Returns how many codes are declared, at most 256.
@@ -149,30 +123,25 @@ pub fn declared_count(s: Settings) -> u16
 }
 
 // Returns the least declared code from the given number on, or nothing. From 256 on there is none.
-pub fn next_declared(s: Settings, from: u16) -> Next
+pub fn next_declared(s: Settings, from: u16) -> Option<u8>
     ensures { result ≡ next_of s.declared from }
 {
     let searched = s.declared;
     codes::next_from(searched, from)
 }
 
-// Returns the answer to a Set, from what is known of its code and whether the value is above the maximum.
+// Accepts a Set or refuses it, from what is known of its code and whether the value is above the maximum.
 #[tactic(auto, unfolding(settings_rules::specs::Settings::answer_to_set))]
-pub fn set_answer(declared: bool, code: u8, writable: bool, above: bool) -> u8
-    ensures { result ≡ answer_to_set declared code writable above }
+pub fn set_answer(declared: bool, code: u8, writable: bool, above: bool) -> Result<(), Refusal>
+    ensures { answer_number result ≡ answer_to_set declared code writable above }
 {
-    if declared {
-        if code == TABLE_CODE {
-            return CODE_NOT_ALLOWED;
-        }
-        if writable {
-            if above {
-                return VALUE_TOO_LARGE;
-            }
-            return DONE;
-        }
+    if !declared || code == TABLE_CODE || !writable {
+        return Err(Refusal::CodeNotAllowed);
     }
-    CODE_NOT_ALLOWED
+    if above {
+        return Err(Refusal::ValueTooLarge);
+    }
+    Ok(())
 }
 
 // Returns whether the value is above the maximum of the code, if that is continuous.
@@ -181,8 +150,8 @@ fn above_maximum(s: Settings, code: u8, value: u16) -> bool
     ensures { result ≡ exceeds_maximum (member s.continuous code) (get_or s.maximum code 0) value }
 {
     let continuous_codes = s.continuous;
-    if codes::contains(continuous_codes, code) {
-        let i = code as usize;
+    if codes::contains(&continuous_codes, code) {
+        let i = usize::from(code);
         let maximum = s.maximum;
         return maximum[i] < value;
     }
@@ -192,39 +161,27 @@ fn above_maximum(s: Settings, code: u8, value: u16) -> bool
 // Returns what a Set of the code to the value comes to.
 // The value is stored by `store`, so that the settings, which are large, are passed on only where they change.
 #[tactic(auto, unfolding(settings_rules::specs::Settings::set_answer))]
-pub fn judge_set(s: Settings, code: u8, value: u16) -> Judgement
-    ensures { result ≡ judge_set s code value }
+pub fn judge_set(s: Settings, code: u8, value: u16) -> Result<Accepted, Refusal>
+    ensures { judgement_of result ≡ judge_set s code value }
 {
     let declared_codes = s.declared;
     let writable_codes = s.writable;
     let momentary_codes = s.momentary;
-    let declared = codes::contains(declared_codes, code);
-    let writable = codes::contains(writable_codes, code);
+    let declared = codes::contains(&declared_codes, code);
+    let writable = codes::contains(&writable_codes, code);
     let above = above_maximum(s, code, value);
-    let answer = set_answer(declared, code, writable, above);
-    if answer != DONE {
-        return Judgement {
-            answer: answer,
-            stored: false,
-        };
+    set_answer(declared, code, writable, above)?;
+    if codes::contains(&momentary_codes, code) {
+        return Ok(Accepted::Momentary);
     }
-    if codes::contains(momentary_codes, code) {
-        return Judgement {
-            answer: answer,
-            stored: false,
-        };
-    }
-    Judgement {
-        answer: answer,
-        stored: true,
-    }
+    Ok(Accepted::Stored)
 }
 
 // Returns the present values with that of one code replaced, as a Set that is stored leaves them.
 pub fn store(mut present: [u16; 256], code: u8, value: u16) -> [u16; 256]
     ensures { result ≡ set present code value }
 {
-    let i = code as usize;
+    let i = usize::from(code);
     present[i] = value;
     present
 }
@@ -239,42 +196,24 @@ pub fn save(mut s: Settings) -> Settings
     s
 }
 
-// Returns the type byte of a Value reply.
-fn type_number(momentary: bool) -> u8
-    ensures { result ≡ type_number momentary }
-{
-    if momentary { MOMENTARY } else { 0 }
-}
-
-// Returns what a Get of the code shows.
+// Returns what a Get of the code shows, or nothing of a code that is not declared or not readable.
 // The two arrays are taken out only where they are shown, so that the settings are not copied whole.
 #[tactic(auto, unfolding(settings_rules::specs::Settings::get_code))]
-pub fn get(s: Settings, code: u8) -> Feature
-    ensures { result ≡ get_code s code }
+pub fn get(s: Settings, code: u8) -> Option<Shown>
+    ensures { feature_of code result ≡ get_code s code }
 {
-    let i = code as usize;
     let declared = s.declared;
-    if codes::contains(declared, code) {
-        let readable = s.readable;
-        if codes::contains(readable, code) {
-            let momentary = s.momentary;
-            let maximum = s.maximum;
-            let present = s.present;
-            let kind = type_number(codes::contains(momentary, code));
-            return Feature {
-                result: 0,
-                code: code,
-                kind: kind,
-                maximum: maximum[i],
-                present: present[i],
-            };
-        }
+    let readable = s.readable;
+    if !codes::contains(&declared, code) || !codes::contains(&readable, code) {
+        return None;
     }
-    Feature {
-        result: 1,
-        code: code,
-        kind: 0,
-        maximum: 0,
-        present: 0,
-    }
+    let i = usize::from(code);
+    let momentary = s.momentary;
+    let maximum = s.maximum;
+    let present = s.present;
+    Some(Shown {
+        momentary: codes::contains(&momentary, code),
+        maximum: maximum[i],
+        present: present[i],
+    })
 }

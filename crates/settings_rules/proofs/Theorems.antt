@@ -16,7 +16,7 @@ use Rattle.settings_rules.specs.Statements.{DeclareAccepts, SetAccepts, RefusedD
 use Rattle.settings_rules.specs.declared.Timing.{Timing}
 use Rattle.settings_rules.specs.declared.Settings.{Settings}
 use Rattle.settings_rules.specs.declared.Declaration.{Declaration}
-use Rattle.settings_rules.specs.declared.Feature.{Feature}
+use Rattle.settings_rules.specs.Settings.{Feature}
 use Rattle.settings_rules.proofs.Answers.{both, at_most, not_exceeding, access-allowed, Accepted, not_refused, declare-accepted, Settable, set-accepted}
 use Rattle.settings_rules.proofs.Stores.{stored_at, declaration_stored, present-stored, declaration_sized, present-sized}
 

@@ -1,4 +1,5 @@
 pub mod Settings
+pub mod Results
 pub mod Entries
 pub mod Statements
 pub mod Operations

@@ -7,7 +7,7 @@ use Rattle.settings_rules.specs.Entries.{Entry, entry_of, entry_present, entry_s
 use Rattle.settings_rules.specs.declared.Timing.{Timing}
 use Rattle.settings_rules.specs.declared.Settings.{Settings}
 use Rattle.settings_rules.specs.declared.Declaration.{Declaration}
-use Rattle.settings_rules.specs.declared.Change.{Change}
+use Rattle.settings_rules.specs.Settings.{Change}
 
 -- the timing is as it was
 pub record SameTiming (s after : Settings) : Type 0 where

@@ -7,9 +7,11 @@ use Rattle.codes.specs.Codes.{all_codes, member, no_codes, inserted, assigned}
 use Rattle.settings_rules.specs.declared.Timing.{Timing}
 use Rattle.settings_rules.specs.declared.Settings.{Settings}
 use Rattle.settings_rules.specs.declared.Declaration.{Declaration}
-use Rattle.settings_rules.specs.declared.Change.{Change}
-use Rattle.settings_rules.specs.declared.Feature.{Feature}
-use Rattle.settings_rules.specs.declared.Judgement.{Judgement}
+
+-- an answer number, with the settings afterwards
+pub record Change : Type 0 where
+  pub answer : ℕ
+  pub settings : Settings
 
 -- "type (0 kept, 1 momentary)"
 abbrev pub momentary_type : ℕ
@@ -93,6 +95,15 @@ declare_code s d =
 
 -- ---- Get
 
+-- the fields of a Value reply
+pub record Feature : Type 0 where
+  pub result : ℕ
+  pub code : ℕ
+  -- the type byte
+  pub kind : ℕ
+  pub maximum : ℕ
+  pub present : ℕ
+
 -- "Get: always answer 0 with a Value reply. A code undeclared or not readable gives result 1 with type, max and present 0."
 unfoldable pub get_code : Settings → ℕ → Feature
 get_code s c =
@@ -126,6 +137,11 @@ with_present s c value = record {
   horizontal = s.horizontal;
   vertical = s.vertical;
 }
+
+-- an answer number, and whether the value becomes the present one
+pub record Judgement : Type 0 where
+  pub answer : ℕ
+  pub stored : Bool
 
 -- what a Set comes to: its answer, and whether the value becomes the present one; "Momentary: accepted, nothing stored."
 abbrev pub judge_set : Settings → ℕ → ℕ → Judgement

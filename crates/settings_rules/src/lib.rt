@@ -3,6 +3,7 @@
 #![tactic(auto)]
 
 // The type of a momentary code; a kept one is 0.
+// A number, not a bool: C gives it, and a type above 1 is refused.
 pub const MOMENTARY: u8 = 1;
 
 // The fields of a Timing reply.
@@ -18,6 +19,7 @@ pub struct Timing {
 // Four yes-or-no properties of each code are sets of codes, as the declared codes are.
 // So one proved test reads all five, and codes with several properties are found by whole words.
 // The timing's numbers stand between the arrays, so that fewer bytes are copied (docs/PROVING-NOTES.md).
+// Arrays of values, not one of structs: C takes this struct as it is, and a call copies only those that it needs.
 #[repr(C)]
 #[derive(Clone, Copy)]
 pub struct Settings {
@@ -48,28 +50,19 @@ pub struct Declaration {
     pub present: u16,
 }
 
-// An answer number, with the settings afterwards.
-// The settings stand first, where they are cheaper to copy.
-#[derive(Clone, Copy)]
-pub struct Change {
-    pub settings: Settings,
-    pub answer: u8,
+// What an accepted Set comes to.
+#[derive(Clone, Copy, PartialEq, Eq)]
+pub enum Accepted {
+    // The value becomes the present one.
+    Stored,
+    // The code is momentary: nothing is stored.
+    Momentary,
 }
 
-// What a Set comes to: an answer number, and whether the value becomes the present one.
-#[derive(Clone, Copy)]
-pub struct Judgement {
-    pub answer: u8,
-    pub stored: bool,
-}
-
-// The fields of a Value reply.
-#[derive(Clone, Copy)]
-pub struct Feature {
-    pub result: u8,
-    pub code: u8,
-    // The type byte.
-    pub kind: u8,
+// What a Get shows of a code that is declared and readable.
+#[derive(Clone, Copy, PartialEq, Eq)]
+pub struct Shown {
+    pub momentary: bool,
     pub maximum: u16,
     pub present: u16,
 }

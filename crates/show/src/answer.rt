@@ -1,59 +1,39 @@
 // Document 01's answer numbers in words.
 use crate::text;
-use buffers::{behind, front};
+use message_rules::answer;
 
-// The width of a meaning's column.
-const WIDTH: usize = 24;
-
-// Returns a text without the spaces behind it.
-fn trimmed(s: &[u8]) -> &[u8] {
-    let mut n = s.len();
-    while n > 0 {
-        if s[n - 1] != b' ' {
-            return &s[0..n];
-        }
-        n -= 1;
-    }
-    &s[0..0]
-}
-
-// Writes a meaning of the table, or that there is none.
-fn known(to: i32, s: &[u8]) {
-    if s.len() == 0 {
-        text(to, b"unknown answer");
-    } else {
-        text(to, s);
+// Returns the meaning of an answer number.
+// Numbers, not `Refusal`: a byte that another display sent may be none, and what C calls answers with a number.
+fn words(n: u8) -> &'static [u8] {
+    match n {
+        answer::DONE => b"done",
+        answer::WRONG_SIZE => b"wrong size lent",
+        answer::TOO_SHORT => b"too few bytes",
+        answer::WRONG_FIRST_BYTE => b"first byte wrong",
+        answer::WRONG_LENGTH => b"length wrong",
+        answer::WRONG_CHECKSUM => b"check byte wrong",
+        answer::UNKNOWN_COMMAND => b"command unknown",
+        answer::WRONG_FIELD => b"field or list wrong",
+        answer::CODE_NOT_ALLOWED => b"code not allowed",
+        answer::VALUE_TOO_LARGE => b"value above the maximum",
+        answer::NOT_WANTED => b"not the fragment wanted",
+        answer::TEXT_TOO_LONG => b"no room for it",
+        answer::NULL_MESSAGE => b"null message",
+        answer::WRONG_GRAMMAR => b"not in the grammar",
+        answer::NO_NODE_ROOM => b"too many words",
+        answer::TOO_DEEP => b"too deep",
+        answer::TRANSFER_CLOSED => b"transfer closed",
+        answer::BROKEN_RECORD => b"records broken",
+        answer::NOT_DECLARABLE => b"not to be declared",
+        answer::REPEATED_TOKEN => b"token called twice",
+        answer::REPEATED_HOUSEHOLD => b"household called twice",
+        _ => b"unknown answer",
     }
 }
 
 // Writes an answer number and its meaning, as `9, value above the maximum`.
-// The meanings stand in the order of their numbers, a line each: a further number is a further line.
 pub fn meaning(to: i32, n: u8) {
-    let meanings = b"done                    \
-        wrong size lent         \
-        too few bytes           \
-        first byte wrong        \
-        length wrong            \
-        check byte wrong        \
-        command unknown         \
-        field or list wrong     \
-        code not allowed        \
-        value above the maximum \
-        not the fragment wanted \
-        no room for it          \
-        null message            \
-        not in the grammar      \
-        too many words          \
-        too deep                \
-        transfer closed         \
-        records broken          \
-        not to be declared      \
-        token called twice      \
-        household called twice  ";
-    crate::number(to, n as u64, 0);
+    crate::number(to, u64::from(n), 0);
     text(to, b", ");
-    known(
-        to,
-        trimmed(front(behind(meanings, n as usize * WIDTH), WIDTH)),
-    );
+    text(to, words(n));
 }

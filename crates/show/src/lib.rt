@@ -1,11 +1,16 @@
 // What the programs write for people.
 // They write texts, numbers in columns and answer numbers with their meaning; show_tree writes capabilities strings.
 // The first parameter is where to: standard output or standard error.
+// It is a descriptor and no writer of std: that would rest on the C library's errno too, and ask each program for its
+// runtime.
 // No contract can speak of what is written: these functions are proved safe and ending, and show_vectors runs them.
 #![tactic(auto)]
 
 pub mod answer;
 pub mod input;
+
+use buffers::front;
+use numerals::put_hex;
 
 // Writes a text as it is.
 pub fn text(to: i32, s: &[u8]) {
@@ -13,12 +18,11 @@ pub fn text(to: i32, s: &[u8]) {
 }
 
 // Writes a number behind spaces up to the width of its column, at most 8.
+// Numbers are handed over as u64: a usize by "as", since it has no From.
 pub fn number(to: i32, n: u64, width: usize) {
     let mut digits = [0u8; 20];
     let k = io::decimal(n, &mut digits);
-    if k < width {
-        text(to, buffers::front(b"        ", width - k));
-    }
+    text(to, front(b"        ", width.saturating_sub(k)));
     text(to, &digits[..k]);
 }
 
@@ -46,27 +50,17 @@ pub fn compared(to: i32, what: &[u8], same: bool) {
     }
 }
 
-// Returns a hexadecimal digit as the papers write it, in capitals.
-fn digit(n: u8) -> u8 {
-    let d = n % 16;
-    if d < 10 { 48 + d } else { 55 + d }
-}
-
 // Writes a byte in two hexadecimal digits.
 pub fn hex(to: i32, b: u8) {
-    let digits = [digit(b / 16), digit(b)];
-    text(to, &digits);
-}
-
-// Writes a space, and a byte in two hexadecimal digits.
-fn spaced_hex(to: i32, b: u8) {
-    let digits = [b' ', digit(b / 16), digit(b)];
+    let mut digits = [0u8; 2];
+    put_hex(&mut digits, 0, b);
     text(to, &digits);
 }
 
 // Writes bytes in hexadecimal, a space in front of each.
 pub fn row(to: i32, s: &[u8]) {
-    for i in 0..s.len() {
-        spaced_hex(to, s[i]);
+    for b in s {
+        text(to, b" ");
+        hex(to, *b);
     }
 }

@@ -6,111 +6,48 @@ ghost use Rattle.message_rules.specs.Answer.{done};
 ghost use Rattle.capabilities_rules.specs.Limits.{most_nodes};
 ghost use Rattle.capabilities_rules.specs.Outcome.{told, outcome};
 
-use buffers::{behind, front, wide_word};
-use capabilities_rules::Reading;
+use buffers::{behind, front, part};
 use capabilities_rules::limits::{DEEPEST, MOST_NODES};
-use message_rules::Position;
+use message_rules::refusal::RefusedAt;
 use show::text;
-
-// Returns the entry `at` of a buffer, or 0 past its end.
-fn entry(values: &[u16], at: usize) -> usize {
-    if at < values.len() {
-        return wide_word(values[at]);
-    }
-    0
-}
 
 // Returns how many groups a node stands in.
 fn levels(parents: &[u16], node: usize) -> usize {
     let mut at = node;
-    let mut count = 0;
-    while count < DEEPEST {
-        if at < parents.len() {
-            at = wide_word(parents[at]);
-            count += 1;
-        } else {
-            return count;
+    for count in 0..DEEPEST {
+        match parents.get(at) {
+            Some(parent) => at = usize::from(*parent),
+            None => return count,
         }
     }
-    count
+    DEEPEST
 }
 
-// Writes a word behind the margin and the spaces of its level, two for each but the first.
-fn word(to: i32, margin: &[u8], s: &[u8], level: usize) {
-    let spaces = front(b"                  ", level % 10 * 2);
-    text(to, margin);
-    text(to, behind(spaces, 2));
-    text(to, s);
-    text(to, b"\n");
-}
-
-// Writes the words of the first `count` nodes.
-fn words(
+// Where lines are written to, and the margin that each begins with.
+#[derive(Clone, Copy)]
+struct Lines<'a> {
     to: i32,
-    margin: &[u8],
-    string: &[u8],
-    starts: &[u16],
-    lengths: &[u16],
-    parents: &[u16],
-    count: usize,
-) {
-    for node in 0..count {
-        let rest = behind(string, entry(starts, node));
-        let s = front(rest, entry(lengths, node));
-        word(to, margin, s, levels(parents, node));
+    margin: &'a [u8],
+}
+
+impl Lines<'_> {
+    // Writes a word behind the spaces of its level, two for each but the first.
+    fn word(self, s: &[u8], level: usize) {
+        let spaces = front(b"                  ", level % 10 * 2);
+        text(self.to, self.margin);
+        text(self.to, behind(spaces, 2));
+        text(self.to, s);
+        text(self.to, b"\n");
     }
-}
 
-// Writes `refused N at P`.
-fn refusal(to: i32, margin: &[u8], number: u8, place: Position) {
-    text(to, margin);
-    show::counted(to, b"refused ", number as u64, b" at ");
-    show::number(to, place.0 as u64, 0);
-    text(to, b"\n");
-}
-
-// What a capabilities string is read to: the reading, and for each word an entry in each buffer.
-#[derive(Drop)]
-struct Nodes {
-    // Where the word starts in the string.
-    starts: [u16; MOST_NODES],
-    // How long it is.
-    lengths: [u16; MOST_NODES],
-    // The node of the word whose group it stands in, or 65,535 at the top.
-    parents: [u16; MOST_NODES],
-    // The number of nodes, or the refusal.
-    reading: Reading,
-}
-
-// Returns the reading of a string with room for 512 nodes.
-fn read(string: &[u8]) -> Nodes
-    ensures { result.reading ≡ outcome most_nodes string.now }
-{
-    let mut starts = [0u16; MOST_NODES];
-    let mut lengths = [0u16; MOST_NODES];
-    let mut parents = [0u16; MOST_NODES];
-    let mut groups = [0u8; MOST_NODES];
-    let reading = capabilities_reader::read(
-        string,
-        &mut starts,
-        &mut lengths,
-        &mut parents,
-        &mut groups,
-    );
-    Nodes {
-        starts: starts,
-        lengths: lengths,
-        parents: parents,
-        reading: reading,
+    // Writes `refused N at P`.
+    fn refusal(self, refused: RefusedAt) {
+        let number = u64::from(u8::from(refused.refusal));
+        text(self.to, self.margin);
+        show::counted(self.to, b"refused ", number, b" at ");
+        show::number(self.to, refused.position.0 as u64, 0);
+        text(self.to, b"\n");
     }
-}
-
-// Writes the words of an accepted string.
-fn tree(to: i32, margin: &[u8], string: &[u8], n: Nodes, count: usize) {
-    let starts = n.starts;
-    let lengths = n.lengths;
-    let parents = n.parents;
-    words(to, margin, string, &starts, &lengths, &parents, count);
 }
 
 // Writes the tree of a capabilities string, each line behind the margin.
@@ -120,16 +57,29 @@ fn tree(to: i32, margin: &[u8], string: &[u8], n: Nodes, count: usize) {
 pub fn write(to: i32, margin: &[u8], string: &[u8]) -> bool
     ensures { result ≡ eqb (told (outcome most_nodes string.now)).number done }
 {
-    let n = read(string);
-    let reading = n.reading;
-    match reading {
-        Reading::Accepted(count) => {
-            tree(to, margin, string, n, count);
-            true
+    let lines = Lines { to, margin };
+    // Four rows: C calls the reader so.
+    let mut starts = [0u16; MOST_NODES];
+    let mut lengths = [0u16; MOST_NODES];
+    let mut parents = [0u16; MOST_NODES];
+    let mut groups = [0u8; MOST_NODES];
+    let read = capabilities_reader::read(
+        string,
+        &mut starts,
+        &mut lengths,
+        &mut parents,
+        &mut groups,
+    );
+    let count = match read {
+        Ok(count) => count,
+        Err(refused) => {
+            lines.refusal(refused);
+            return false;
         }
-        Reading::Refused(number, place) => {
-            refusal(to, margin, number, place);
-            false
-        }
+    };
+    for (node, (start, length)) in starts.iter().zip(&lengths).take(count).enumerate() {
+        let s = part(string, usize::from(*start), usize::from(*length));
+        lines.word(s, levels(&parents, node));
     }
+    true
 }

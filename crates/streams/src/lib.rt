@@ -1,4 +1,5 @@
 // The numbers of a program's standard streams.
+// Numbers, not std's handles: io's functions take descriptors as they are.
 #![tactic(auto)]
 
 // Standard input.

@@ -4,132 +4,78 @@
 mod steps;
 mod wire;
 
-ghost use Rattle.std.specs.Prelude.{◌≡◌, ◌<◌, length};
+ghost use Rattle.std.specs.Prelude.{length};
+ghost use Rattle.std.specs.Result.{result_unwrap_or};
+ghost use Rattle.message_rules.specs.Refusal.{answer_number};
 ghost use Rattle.transfer_rules.specs.Transfer as rules;
-ghost use Rattle.transfer_rules.specs.Transfer.{first_state, Requests, Receives};
-ghost use Rattle.transfer_rules.specs.Fragment.{read_reply, fragment_of};
-ghost use Rattle.transfer.specs.Found.{requested_by};
+ghost use Rattle.transfer_rules.specs.Transfer.{Begins, Requests, Receives};
 
-use crate::wire::FragmentRead;
-use message_output::Built;
-use message_rules::{TextKind, TextOffset, answer};
-use transfer_rules::{Begun, Received, Requested, State, Transfer, limits};
+use crate::steps::Open;
+use message_rules::refusal::Refusal;
+use message_rules::{TextKind, TextOffset};
+use transfer_rules::{Received, State, Transfer, limits};
 
-// Returns the state that a transfer begins in: a budget of 0 is closed at once.
-fn first_state(budget: usize) -> State
-    ensures { result ≡ first_state budget }
+// Returns a transfer of a text, with the buffer that it will fill and a budget of exchanges.
+// A budget of 0 is closed at once, and one above 65,535 is refused with 18.
+pub fn begin(kind: TextKind, buffer: &[u8], budget: usize) -> Result<Transfer, Refusal>
+    ensures { Begins (rules.begin kind (length buffer.now) budget) kind result }
 {
-    if budget == 0 {
+    if limits::MOST_BUDGET < budget {
+        return Err(Refusal::NotDeclarable);
+    }
+    let state = if budget == 0 {
         State::Exhausted
     } else {
         State::Running
-    }
-}
-
-// Returns a transfer of a text, with the buffer that it will fill and a budget of exchanges.
-// A budget above 65,535 is refused with 18.
-pub fn begin(kind: TextKind, buffer: &[u8], budget: usize) -> Begun
-    ensures { result ≡ rules.begin kind (length buffer.now) budget }
-{
-    if limits::MOST_BUDGET < budget {
-        let refused = Transfer {
-            kind,
-            state: State::Exhausted,
-            reached: TextOffset(0),
-            capacity: 0,
-            budget: 0,
-            count: 0,
-        };
-        return Begun {
-            answer: answer::NOT_DECLARABLE,
-            transfer: refused,
-        };
-    }
-    let state = first_state(budget);
-    let begun = Transfer {
+    };
+    Ok(Transfer {
         kind,
         state,
         reached: TextOffset(0),
         capacity: buffer.len(),
         budget: budget as u16,
         count: 0,
-    };
-    Begun {
-        answer: answer::DONE,
-        transfer: begun,
-    }
-}
-
-// Returns what a builder returned as what a request returns.
-fn requested(built: Built) -> Requested
-    ensures { result ≡ requested_by built }
-{
-    match built {
-        Built::Done(len) => Requested {
-            answer: answer::DONE,
-            len,
-        },
-        Built::Refused(n) => Requested { answer: n, len: 0 },
-    }
+    })
 }
 
 // Builds the request for the offset that the transfer has reached.
-// Returns the answer and the request's length: 16 where the transfer is closed, 1 for an output under 38 bytes.
+// Returns its length, or a refusal: 16 where the transfer is closed, 1 for an output under 38 bytes.
 // A request is not counted.
-pub fn request(transfer: Transfer, output: &mut [u8]) -> Requested
-    ensures { Requests (rules.request transfer output.old) result.answer result.len output.new }
+pub fn request(transfer: Transfer, output: &mut [u8]) -> Result<usize, Refusal>
+    ensures { Requests (rules.request transfer output.old) (answer_number result) (result_unwrap_or result 0) output.new }
 {
-    if steps::is_open(transfer) {
-        let kind = transfer.kind;
-        let reached = transfer.reached;
-        let built = wire::build(kind, reached, output);
-        return requested(built);
-    }
-    Requested {
-        answer: answer::TRANSFER_CLOSED,
-        len: 0,
-    }
-}
-
-// Judges a reply to an open transfer, with a buffer of the length that it was begun with.
-// Returns 0 where it is the fragment wanted and has room, 11 where it has none.
-// Another fragment or another kind of reply is 10; what cannot be read gives the reader's answer.
-fn judge(transfer: Transfer, buffer: &mut [u8], reply: &[u8]) -> Received
-    requires { (transfer.count < transfer.budget) × (length buffer.old ≡ transfer.capacity) }
-    ensures { Receives (rules.judge transfer buffer.old (fragment_of transfer.kind (read_reply reply.now))) result.answer result.transfer buffer.new }
-{
-    let kind = transfer.kind;
-    let found = wire::read_fragment(kind, reply);
-    match found {
-        FragmentRead::Found(offset, at, len) => {
-            if offset.0 == transfer.reached.0 {
-                let start = at.0;
-                let end = start + len;
-                return steps::accept(transfer, buffer, &reply[start..end]);
-            }
-            steps::refuse(transfer, answer::NOT_WANTED)
-        }
-        FragmentRead::Refused(n) => steps::refuse(transfer, n),
-    }
+    let open = Open::of(transfer).ok_or(Refusal::TransferClosed)?;
+    wire::build(open.transfer.kind, open.transfer.reached, output)
 }
 
 // Receives the bytes that came back, with the buffer that the transfer was begun with.
+// The fragment wanted is accepted where it has room, and is refused with 11 where it has none.
+// Another fragment or another kind of reply is 10; what cannot be read gives the reader's refusal.
 // Returns the answer and the transfer afterwards, with one exchange more counted.
 // A closed transfer is 16, and a buffer of another length is 1: these count nothing and change nothing.
+// Transfer and buffer come apart: a state goes by value, and a buffer is lent.
 pub fn receive(transfer: Transfer, buffer: &mut [u8], reply: &[u8]) -> Received
-    ensures { Receives (rules.receive transfer buffer.old reply.now) result.answer result.transfer buffer.new }
+    ensures { Receives (rules.receive transfer buffer.old reply.now) (answer_number result.answer) result.transfer buffer.new }
 {
-    if steps::is_open(transfer) {
-        if buffer.len() == transfer.capacity {
-            return judge(transfer, buffer, reply);
-        }
+    let Some(open) = Open::of(transfer) else {
         return Received {
-            answer: answer::WRONG_SIZE,
+            answer: Err(Refusal::TransferClosed),
+            transfer,
+        };
+    };
+    if buffer.len() != transfer.capacity {
+        return Received {
+            answer: Err(Refusal::WrongSize),
             transfer,
         };
     }
-    Received {
-        answer: answer::TRANSFER_CLOSED,
-        transfer,
+    match wire::read_fragment(transfer.kind, reply) {
+        Ok(found) if found.offset == transfer.reached => {
+            let start = found.at.0;
+            let end = start + found.len;
+            open.accept(buffer, &reply[start..end])
+        }
+        Ok(_) => open.refuse(Refusal::NotWanted),
+        Err(refusal) => open.refuse(refusal),
     }
 }

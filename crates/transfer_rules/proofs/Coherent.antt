@@ -13,10 +13,9 @@ use Rattle.message_rules.specs.declared.TextKind.{TextKind}
 use Rattle.transfer_rules.specs.declared.State.{State}
 use Rattle.transfer_rules.specs.declared.State.TheVariants.{Running, Done, Exhausted, Overflowed}
 use Rattle.transfer_rules.specs.declared.Transfer.{Transfer}
-use Rattle.transfer_rules.specs.declared.Begun.{Begun}
 use Rattle.transfer_rules.specs.Limits.{most_budget}
 use Rattle.transfer_rules.specs.Fragment.{Fragment, read_reply, fragment_of}
-use Rattle.transfer_rules.specs.Transfer.{is_open, room, begin, ReceiveOutcome, exhausted_at, counted, state_after, accept, judge, unchanged, receive, Coherent, KeepsCoherent}
+use Rattle.transfer_rules.specs.Transfer.{BeginOutcome, is_open, room, begin, ReceiveOutcome, exhausted_at, counted, state_after, accept, judge, unchanged, receive, Coherent, KeepsCoherent}
 use Rattle.transfer_rules.proofs.Steps.{open_runs}
 
 -- what holds of both arms of a test holds of its result
@@ -51,7 +50,7 @@ module _ (t : Transfer) (buffer : List ℕ) (h : t.count < t.budget) where
 
 begin_coherent : (k : TextKind) (size budget : ℕ) → Coherent (begin k size budget).transfer
 begin_coherent k size budget =
-    either (λ (b : Begun). Coherent b.transfer) (leb budget most_budget) _ _ (first (eqb budget 0) refl) (λ e. let z : ◌≡◌ {A = ℕ} 0 1 = cc in absurd (omega arith))
+    either (λ (b : BeginOutcome). Coherent b.transfer) (leb budget most_budget) _ _ (first (eqb budget 0) refl) (λ e. let z : ◌≡◌ {A = ℕ} 0 1 = cc in absurd (omega arith))
   where
     first : (b : Bool) → eqb budget 0 ≡ b → cond b Exhausted Running ≡ Running → 0 < budget
     first true p r = let z : ◌≡◌ {A = ℕ} 0 1 = cc in absurd (omega arith)

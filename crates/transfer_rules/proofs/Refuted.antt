@@ -21,10 +21,9 @@ use Rattle.message_rules.specs.declared.TextKind.TheVariants.{Capabilities, Tabl
 use Rattle.transfer_rules.specs.declared.State.{State}
 use Rattle.transfer_rules.specs.declared.State.TheVariants.{Running, Done, Exhausted}
 use Rattle.transfer_rules.specs.declared.Transfer.{Transfer}
-use Rattle.transfer_rules.specs.declared.Begun.{Begun}
 use Rattle.transfer_rules.specs.Fragment.{Fragment, request_message, fragment_message, read_reply, fragment_of, data_in}
 use Rattle.buffers.specs.Buffers.{put}
-use Rattle.transfer_rules.specs.Transfer.{is_open, begin, RequestOutcome, request, ReceiveOutcome, refuse, accept, receive}
+use Rattle.transfer_rules.specs.Transfer.{BeginOutcome, is_open, begin, RequestOutcome, request, ReceiveOutcome, refuse, accept, receive}
 use Rattle.transfer_rules.specs.Exchange.{Calls, World, Exchange, ignores, acts, start, after, Corrupted, Follows, Course, ended, answered, corrupted, closed}
 use Rattle.transfer_rules.specs.Demand3.{Setup, CourseOf, Claims, Demand3}
 use Rattle.transfer_rules.proofs.Messages.{request_injective}
@@ -398,25 +397,25 @@ rejects_ask_at_32 h =
 
 -- ---- a wrong begin
 
-abbrev beginning : (TextKind → ℕ → ℕ → Begun) → Calls
+abbrev beginning : (TextKind → ℕ → ℕ → BeginOutcome) → Calls
 beginning f = record { begin = f; request = request; receive = receive }
 
 -- one that always refuses
-abbrev begin-none : TextKind → ℕ → ℕ → Begun
+abbrev begin-none : TextKind → ℕ → ℕ → BeginOutcome
 begin-none k size budget = begin k size 65536
 
 rejects_begin_none : Demand3 (beginning begin-none) → ⊥
 rejects_begin_none h = let e : ◌≡◌ {A = ℕ} 18 0 = (says (beginning begin-none) 9 [] 0 refl h ended).0 in omega arith
 
 -- one that grants an exchange more than the budget
-abbrev begin_generous : TextKind → ℕ → ℕ → Begun
+abbrev begin_generous : TextKind → ℕ → ℕ → BeginOutcome
 begin_generous k size budget = record { answer = 0; transfer = record { kind = k; state = Running; reached = record { 0 = 0 }; capacity = size; budget = budget + 1; count = 0 } }
 
 rejects_begin_generous : Demand3 (beginning begin_generous) → ⊥
 rejects_begin_generous h = omega (arith, (says (beginning begin_generous) 0 [] 0 refl h ended).2.within refl)
 
 -- one that begins at offset 1
-abbrev begin-at_1 : TextKind → ℕ → ℕ → Begun
+abbrev begin-at_1 : TextKind → ℕ → ℕ → BeginOutcome
 begin-at_1 k size budget = record { answer = 0; transfer = with_reached (begin k size budget).transfer 1 }
 
 rejects_begin_at_1 : Demand3 (beginning begin-at_1) → ⊥
@@ -427,7 +426,7 @@ abbrev other : TextKind → TextKind
 other Capabilities = Table
 other Table = Capabilities
 
-abbrev begin-other : TextKind → ℕ → ℕ → Begun
+abbrev begin-other : TextKind → ℕ → ℕ → BeginOutcome
 begin-other k size budget = begin (other k) size budget
 
 rejects_begin_other : Demand3 (beginning begin-other) → ⊥

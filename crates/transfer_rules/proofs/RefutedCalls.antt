@@ -16,8 +16,7 @@ use Rattle.message_rules.specs.declared.TextKind.TheVariants.{Capabilities}
 use Rattle.transfer_rules.specs.declared.State.{State}
 use Rattle.transfer_rules.specs.declared.State.TheVariants.{Running, Done, Overflowed}
 use Rattle.transfer_rules.specs.declared.Transfer.{Transfer}
-use Rattle.transfer_rules.specs.declared.Begun.{Begun}
-use Rattle.transfer_rules.specs.Transfer.{begin, request, ReceiveOutcome, receive}
+use Rattle.transfer_rules.specs.Transfer.{BeginOutcome, begin, request, ReceiveOutcome, receive}
 use Rattle.transfer_rules.specs.Exchange.{Calls}
 use Rattle.transfer_rules.specs.Calls.{started, not_offered, CallsFollow}
 use Rattle.transfer_rules.proofs.Example.{buffer, first_two}
@@ -69,10 +68,10 @@ rejects_size_first h =
     omega arith
 
 -- a begin that takes a budget of 65,536
-abbrev begin_65536 : TextKind → ℕ → ℕ → Begun
+abbrev begin_65536 : TextKind → ℕ → ℕ → BeginOutcome
 begin_65536 k size budget = cond (leb budget 65536) (started 0 k Running size budget) (begin k size budget)
 
 rejects_begin_65536 : CallsFollow (record { begin = begin_65536; request = request; receive = receive }) → ⊥
 rejects_begin_65536 h =
-    let e : ◌≡◌ {A = ℕ} 0 18 = ap (λ (b : Begun). b.answer) (h.refuses_begin Capabilities 5 65536 (omega arith)) in
+    let e : ◌≡◌ {A = ℕ} 0 18 = ap (λ (b : BeginOutcome). b.answer) (h.refuses_begin Capabilities 5 65536 (omega arith)) in
     omega arith

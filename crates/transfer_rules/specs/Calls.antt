@@ -7,14 +7,13 @@ use Rattle.message_rules.specs.declared.TextKind.{TextKind}
 use Rattle.transfer_rules.specs.declared.State.{State}
 use Rattle.transfer_rules.specs.declared.State.TheVariants.{Running, Done, Exhausted, Overflowed}
 use Rattle.transfer_rules.specs.declared.Transfer.{Transfer}
-use Rattle.transfer_rules.specs.declared.Begun.{Begun}
 use Rattle.transfer_rules.specs.Fragment.{request_message, fragment_for, read_reply}
-use Rattle.transfer_rules.specs.Transfer.{is_open, RequestOutcome, ReceiveOutcome}
+use Rattle.transfer_rules.specs.Transfer.{BeginOutcome, is_open, RequestOutcome, ReceiveOutcome}
 use Rattle.transfer_rules.specs.Exchange.{Calls}
 
 -- ---- what the calls come to
 
-abbrev pub started : (answer : ℕ) → TextKind → State → (size budget : ℕ) → Begun
+abbrev pub started : (answer : ℕ) → TextKind → State → (size budget : ℕ) → BeginOutcome
 started n k s size budget = record { answer = n; transfer = record { kind = k; state = s; reached = record { 0 = 0 }; capacity = size; budget = budget; count = 0 } }
 
 -- a refused asking writes nothing

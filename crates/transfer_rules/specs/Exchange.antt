@@ -6,15 +6,14 @@ use Rattle.message_rules.specs.Answer.{done, wrong_size, transfer_closed}
 use Rattle.message_rules.specs.Message.{Valid, replies}
 use Rattle.message_rules.specs.declared.TextKind.{TextKind}
 use Rattle.transfer_rules.specs.declared.Transfer.{Transfer}
-use Rattle.transfer_rules.specs.declared.Begun.{Begun}
 use Rattle.transfer_rules.specs.Fragment.{request_message, fragment_for, fragment_message, read_reply, data_in}
-use Rattle.transfer_rules.specs.Transfer.{is_open, RequestOutcome, ReceiveOutcome}
+use Rattle.transfer_rules.specs.Transfer.{BeginOutcome, is_open, RequestOutcome, ReceiveOutcome}
 use Rattle.transfer_rules.specs.Transfer as ours
 use Rattle.transfer_rules.specs.Conforming.{Cursor, ConformingAct}
 
 -- the three calls of a transfer
 pub record Calls : Type 0 where
-  pub begin : TextKind → ℕ → ℕ → Begun
+  pub begin : TextKind → ℕ → ℕ → BeginOutcome
   pub request : Transfer → List ℕ → RequestOutcome
   pub receive : Transfer → List ℕ → List ℕ → ReceiveOutcome
 

@@ -1,14 +1,16 @@
 -- Document 01, "The read run", first paragraph: begin, request and receive (the papers' beginning, asking, offering) as total definitions.
-use Rattle.std.specs.Prelude.{ℕ, ◌+◌, ◌<◌, min, ◌≡◌, List, Bool, true, false, cond, ◌&&◌, length, ltb, leb, eqb}
+use Rattle.std.specs.Prelude.{ℕ, ◌+◌, ◌<◌, min, ◌≡◌, List, Bool, true, false, cond, ◌&&◌, Result, length, ltb, leb, eqb}
+use Rattle.std.specs.Result.{result_unwrap_or}
 use Rattle.buffers.specs.Buffers.{over, put}
 use Rattle.message_rules.specs.Answer.{done, wrong_size, not_wanted, text_too_long, transfer_closed, not_declarable}
 use Rattle.message_rules.specs.Limits.{output_room}
 use Rattle.message_rules.specs.Read.{Read, ok, refused}
+use Rattle.message_rules.specs.Refusal.{answer_number}
+use Rattle.message_rules.specs.declared.refusal.Refusal.{Refusal}
 use Rattle.message_rules.specs.declared.TextKind.{TextKind}
 use Rattle.transfer_rules.specs.declared.State.{State}
 use Rattle.transfer_rules.specs.declared.State.TheVariants.{Running, Done, Exhausted, Overflowed}
 use Rattle.transfer_rules.specs.declared.Transfer.{Transfer}
-use Rattle.transfer_rules.specs.declared.Begun.{Begun}
 use Rattle.message_rules.specs.Limits.{longest_text}
 use Rattle.transfer_rules.specs.Limits.{most_budget}
 use Rattle.transfer_rules.specs.Fragment.{Fragment, request_message, read_reply, fragment_of}
@@ -29,16 +31,25 @@ room t = min t.capacity longest_text
 
 -- ---- begin
 
+-- the answer, and the transfer
+pub record BeginOutcome : Type 0 where
+  pub answer : ℕ
+  pub transfer : Transfer
+
 -- "A budget of 0 is closed at once."
 abbrev pub first_state : ℕ → State
 first_state budget = cond (eqb budget 0) Exhausted Running
 
--- "Begun for one text, with a buffer and a budget 0 to 65,535 (else 18)"; "A refused start gives .. a spent run of room 0"
-abbrev pub begin : TextKind → ℕ → ℕ → Begun
+-- "A refused start gives .. a spent run of room 0"
+abbrev pub exhausted : TextKind → Transfer
+exhausted k = record { kind = k; state = Exhausted; reached = record { 0 = 0 }; capacity = 0; budget = 0; count = 0 }
+
+-- "Begun for one text, with a buffer and a budget 0 to 65,535 (else 18)"
+abbrev pub begin : TextKind → ℕ → ℕ → BeginOutcome
 begin k size budget =
     cond (leb budget most_budget)
     (record { answer = done; transfer = record { kind = k; state = first_state budget; reached = record { 0 = 0 }; capacity = size; budget = budget; count = 0 } })
-    (record { answer = not_declarable; transfer = record { kind = k; state = Exhausted; reached = record { 0 = 0 }; capacity = 0; budget = 0; count = 0 } })
+    (record { answer = not_declarable; transfer = exhausted k })
 
 -- ---- request
 
@@ -124,6 +135,11 @@ pub record KeepsCoherent : Type 0 where
   pub received : (t : Transfer) (buffer came : List ℕ) → Coherent t → Coherent (receive t buffer came).transfer
 
 -- ---- what the contracts say
+
+-- of begin: the answer, and the transfer, which is the exhausted one where the start is refused
+pub record Begins (x : BeginOutcome) (k : TextKind) (begun : Result Transfer Refusal) : Type 0 where
+  pub answer_is : answer_number begun ≡ x.answer
+  pub transfer_is : result_unwrap_or begun (exhausted k) ≡ x.transfer
 
 -- of request: the answer, the length and every byte of the output
 pub record Requests (x : RequestOutcome) (answer len : ℕ) (output : List ℕ) : Type 0 where

@@ -4,11 +4,15 @@
 
 pub mod limits;
 
+ghost use Rattle.std.specs.Prelude.{◌≡◌};
+ghost use Rattle.transfer_rules.specs.Transfer.{exhausted};
+
+use message_rules::refusal::Refusal;
 use message_rules::{TextKind, TextOffset};
 
 // Whether a transfer runs, or how it closed.
 // The cases stand in the order of the exported numbers, so that the exports turn one into the other for nothing.
-#[derive(Clone, Copy)]
+#[derive(Clone, Copy, PartialEq, Eq)]
 pub enum State {
     // Closed at its budget: the count met it, and no empty fragment had come.
     Exhausted,
@@ -37,29 +41,27 @@ pub struct Transfer {
     pub count: u16,
 }
 
-// What beginning a transfer returns.
-#[derive(Clone, Copy)]
-pub struct Begun {
-    // The answer number.
-    pub answer: u8,
-    // The transfer; one that was refused is exhausted, and its room is 0.
-    pub transfer: Transfer,
-}
-
-// What building a transfer's request returns.
-#[derive(Clone, Copy)]
-pub struct Requested {
-    // The answer number.
-    pub answer: u8,
-    // The length of the request in the output, or 0.
-    pub len: usize,
+impl Transfer {
+    // Returns the transfer that stands for a refused start: it is exhausted, and its room is 0.
+    pub fn exhausted(kind: TextKind) -> Transfer
+        ensures { result ≡ exhausted kind }
+    {
+        Transfer {
+            kind,
+            state: State::Exhausted,
+            reached: TextOffset(0),
+            capacity: 0,
+            budget: 0,
+            count: 0,
+        }
+    }
 }
 
 // What receiving a reply returns.
 #[derive(Clone, Copy)]
 pub struct Received {
-    // The answer number.
-    pub answer: u8,
-    // The transfer afterwards.
+    // Whether the reply was accepted, or why it was refused.
+    pub answer: Result<(), Refusal>,
+    // The transfer afterwards, which comes in either case.
     pub transfer: Transfer,
 }

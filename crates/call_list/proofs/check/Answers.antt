@@ -1,75 +1,85 @@
-use mathlib.Core.Path.{◌≡◌, sym, ◌∙◌}
+use mathlib.Core.Path.{◌≡◌, sym, ap, subst, ◌∙◌}
 use Prim.Native.Nat.{ℕ, ◌+◌, ◌≤◌, ◌<◌}
 use native.Mathlib.Omega.{arith}
-use lib.ListN.{length, length-replicate, length-set}
-use Rattle.call_list_rules.specs.Limits.{most_entries}
-use Rattle.call_list_rules.specs.CallList.{start_of, token_of, household_of, refused_at}
+use lib.ListN.{length, take, drop, length-drop}
+use Rattle.std.specs.Prelude.{min}
+use Rattle.std.specs.declared.slice.Chunks.{Chunks}
+use Rattle.call_list_rules.specs.Limits.{record_size}
+use Rattle.call_list_rules.specs.CallList.{start_of, record_answer, refused_at, accepted_with}
 use Rattle.call_list_rules.proofs.Theorems.{check_long}
 use Rattle.call_list.specs.Parts.{row_room}
-use Rattle.call_list.proofs.Laws.{check_starts, check_refused, check_on, check_ends, accepted-whole, held_none, held_next}
+use Rattle.call_list.specs.Earlier.{answer_behind}
+use Rattle.call_list.specs.declared.earlier.Earlier.{Earlier}
+use Rattle.message_rules.specs.Refusal.{number_of}
+use Rattle.call_list.proofs.Rows.{cut-taken, cut-left}
+use Rattle.call_list.proofs.Laws.{record_at, CheckLeft, check_starts, check_refused, check_on, check_ends, holds_none, holds_next, joined_at, drop_next, answer_next, refused-not_done}
 use Rattle.call_list.proofs.check.Goals as goal
-use Rattle.call_list.proofs.check.Goals.{Else-answer-ne-DONE}
+use Rattle.call_list.proofs.check.Goals.{In-Some}
 
 pub returns-then-list-gt-LONGEST_LIST : goal.returns-then-list-gt-LONGEST_LIST
-returns-then-list-gt-LONGEST_LIST c = let a = c.args in c.refused.ensures ∙ sym (check_long a.list.now (omega arith))
+returns-then-list-gt-LONGEST_LIST c = sym (check_long c.args.list.now (omega arith))
 
-pub loop-k-init : goal.loop-k-init
-loop-k-init c =
-    let a = c.args in
-    (omega arith, check_starts a.list.now (omega arith), length-replicate {A = ℕ} row_room 0, length-replicate {A = ℕ} row_room 0, held_none _ _, held_none _ _)
+pub loop-record-init : goal.loop-record-init
+loop-record-init c =
+    let s = c.args.list.now in
+    let e = c.none-earlier.ensures in
+    let q = c.into_iter-record-iterator.ensures.into_iter_gives in
+    let first : drop (start_of c.none-earlier.result.len) s ≡ s = ap (λ (k : ℕ). drop (start_of k) s) e in (
+      subst (CheckLeft s) (sym e) (check_starts s (omega arith)),
+      holds_none c.none-earlier.result s e,
+      ap (λ (x : Chunks ℕ). x.rest.now) q ∙ c.chunks-record-items.ensures.rest ∙ sym first,
+      ap (λ (x : Chunks ℕ). x.size) q ∙ c.chunks-record-items.ensures.size,
+    )
 
-pub record_answer-answer-requires : goal.record_answer-answer-requires
-record_answer-answer-requires c = (omega arith, c.loop-k.invariant.4, c.loop-k.invariant.5)
+-- the record's bytes come off those behind the records in front
+module _ (c : In-Some) where
+  rest : length c.in-Some.record.now ≡ min record_size (length c.loop-record.record-iterator.rest.now)
+  rest = c.in-Some.ensures.steps.1.1 ∙ ap (λ (n : ℕ). min n (length c.loop-record.record-iterator.rest.now)) c.loop-record.invariant.3
 
-pub returns-then-answer-ne-DONE : goal.returns-then-answer-ne-DONE
-returns-then-answer-ne-DONE c =
-    let a = c.args in
-    let said : c.refused-then-answer-ne-DONE.result ≡ refused_at c.record_answer-answer.result (start_of c.loop-k.k) = c.refused-then-answer-ne-DONE.ensures in
-    said ∙ check_refused a.list.now c.loop-k.k c.loop-k.invariant.1 (omega arith) _ c.record_answer-answer.ensures c.if-answer-ne-DONE.true
+  bytes : c.in-Some.record.now ≡ record_at c.args.list.now c.loop-record.earlier.len
+  bytes = cut-taken record_size _ _ _ c.in-Some.ensures.steps.1.0 rest ∙ ap (take record_size) c.loop-record.invariant.2
 
--- an accepted record is whole
-room : (c : Else-answer-ne-DONE) → start_of (c.loop-k.k + 1) ≤ length c.args.list.now
-room c = accepted-whole c.args.list.now c.loop-k.k c.loop-k.invariant.0 (sym c.record_answer-answer.ensures ∙ c.if-answer-ne-DONE.false)
+  behind : c.next.new.self.rest.now ≡ drop record_size (drop (start_of c.loop-record.earlier.len) c.args.list.now)
+  behind = cut-left record_size _ _ _ c.in-Some.ensures.steps.1.0 rest ∙ ap (drop record_size) c.loop-record.invariant.2
 
-pub field_of-requires : goal.field_of-requires
-field_of-requires c = omega (arith, room (goal.at.field_of-requires c).Else-answer-ne-DONE)
+  begun : start_of c.loop-record.earlier.len < length c.args.list.now
+  begun = omega (arith, c.in-Some.ensures.steps.1.2, ap length c.loop-record.invariant.2, length-drop (start_of c.loop-record.earlier.len) c.args.list.now)
 
-pub offset_bounds-tokens-k : goal.offset_bounds-tokens-k
-offset_bounds-tokens-k c = omega (arith, room (goal.at.offset_bounds-tokens-k c).Else-answer-ne-DONE)
+  room : c.loop-record.earlier.len < row_room
+  room = omega (arith, begun, c.if-list-gt-LONGEST_LIST.false)
 
-pub bounds-tokens-k : goal.bounds-tokens-k
-bounds-tokens-k c = omega (arith, room (goal.at.bounds-tokens-k c).Else-answer-ne-DONE)
+  -- the answer to it
+  answer : answer_behind c.loop-record.earlier c.in-Some.record.now ≡ record_answer c.args.list.now c.loop-record.earlier.len
+  answer = ap (answer_behind c.loop-record.earlier) bytes ∙ answer_next c.loop-record.earlier c.args.list.now c.loop-record.invariant.1
 
-pub field_of-requires-in-loop-k : goal.field_of-requires-in-loop-k
-field_of-requires-in-loop-k c = omega (arith, room (goal.at.field_of-requires-in-loop-k c).Else-answer-ne-DONE)
+pub admit-requires : goal.admit-requires
+admit-requires c = room (goal.at.admit-requires c).In-Some
 
-pub offset_bounds-households-k : goal.offset_bounds-households-k
-offset_bounds-households-k c = omega (arith, room (goal.at.offset_bounds-households-k c).Else-answer-ne-DONE)
+pub returns-in-Err : goal.returns-in-Err
+returns-in-Err c =
+    let at = (goal.at.returns-in-Err c).In-Some in
+    let s = c.args.list.now in
+    let k = c.loop-record.earlier.len in
+    let e : c.len.result ≡ k = c.len.ensures ∙ ap (λ (x : Earlier). x.len) c.in-Err.ensures.left in
+    ap (λ (n : ℕ). refused_at (number_of c.in-Err.refusal) (start_of n)) e
+    ∙ check_refused s k c.loop-record.invariant.0 (begun at) _ (c.in-Err.ensures.answer ∙ answer at) (refused-not_done c.in-Err.refusal)
 
-pub bounds-households-k : goal.bounds-households-k
-bounds-households-k c = omega (arith, room (goal.at.bounds-households-k c).Else-answer-ne-DONE)
-
-pub overflow_add-k : goal.overflow_add-k
-overflow_add-k c = omega (arith, room (goal.at.overflow_add-k c).Else-answer-ne-DONE)
-
-pub loop-k-smaller : goal.loop-k-smaller
-loop-k-smaller c = omega (arith, room (goal.at.loop-k-smaller c).Else-answer-ne-DONE)
-
-pub loop-k-preserved : goal.loop-k-preserved
-loop-k-preserved c =
-    let whole = room (goal.at.loop-k-preserved c).Else-answer-ne-DONE in
-    let a = c.args in
-    let k = c.loop-k.k in
-    let l : k < most_entries = omega (arith, whole) in (
-      whole,
-      check_on a.list.now k c.loop-k.invariant.1 (omega arith) (sym c.record_answer-answer.ensures ∙ c.if-answer-ne-DONE.false),
-      length-set c.loop-k.tokens k _ ∙ c.loop-k.invariant.2,
-      length-set c.loop-k.households k _ ∙ c.loop-k.invariant.3,
-      held_next c.loop-k.tokens (token_of a.list.now) k _ (omega arith) c.field_of.ensures c.loop-k.invariant.4,
-      held_next c.loop-k.households (household_of a.list.now) k _ (omega arith) c.field_of-in-loop-k.ensures c.loop-k.invariant.5,
+pub loop-record-preserved : goal.loop-record-preserved
+loop-record-preserved c =
+    let at = (goal.at.loop-record-preserved c).In-Some in
+    let s = c.args.list.now in
+    let e = c.loop-record.earlier in
+    let j = c.in_default.ensures.joined in
+    let n : c.admit.new.self.len ≡ e.len + 1 = j.len in (
+      subst (CheckLeft s) (sym n) (check_on s e.len c.loop-record.invariant.0 (begun at) (sym (c.in_default.ensures.answer ∙ answer at))),
+      holds_next e c.admit.new.self s c.loop-record.invariant.1 (room at) (joined_at e s _ (bytes at) j),
+      behind at ∙ drop_next s e.len _ n,
+      c.in-Some.ensures.steps.0 ∙ c.loop-record.invariant.3,
     )
 
 pub returns : goal.returns
 returns c =
-    let a = c.args in
-    check_ends a.list.now c.loop-k.k c.loop-k.invariant.1 (omega arith)
+    let s = c.args.list.now in
+    let k = c.loop-record.earlier.len in
+    let l : length s ≤ start_of k = omega (arith, c.in-None.ensures.steps.1.0, ap length c.loop-record.invariant.2, length-drop (start_of k) s) in
+    ap accepted_with c.len-2.ensures ∙ check_ends s k c.loop-record.invariant.0 l

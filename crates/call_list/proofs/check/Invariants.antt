@@ -1,16 +1,12 @@
--- `check` goes from record to record. The invariant: the answer to what is left is the answer to the list, and the rows
--- hold the tokens and the households so far. The measure: the bytes left.
+-- `check` goes from record to record. The invariant: the answer to what is left is the answer to the list, the rows hold
+-- the tokens and the households so far, and the bytes left are those behind their records.
 use mathlib.Core.Path.{◌≡◌}
-use Prim.Native.Nat.{◌-◌, ◌≤◌}
-use lib.ListN.{length}
-use Rattle.call_list_rules.specs.CallList.{start_of, token_of, household_of}
-use Rattle.call_list.specs.Parts.{row_room, Held}
-use Rattle.call_list.proofs.Laws.{CheckLeft}
+use lib.ListN.{drop}
+use Rattle.call_list_rules.specs.Limits.{record_size}
+use Rattle.call_list_rules.specs.CallList.{start_of}
+use Rattle.call_list.proofs.Laws.{CheckLeft, Holds}
 use Rattle.call_list.proofs.check.Given as goal
 
-abbrev pub invariant-loop-k : goal.invariant-loop-k
-invariant-loop-k l =
-    (start_of l.k ≤ length l.list) × CheckLeft l.list l.k × (length l.tokens ≡ row_room) × (length l.households ≡ row_room) × Held l.tokens (token_of l.list) l.k × Held l.households (household_of l.list) l.k
-
-abbrev pub decreases-loop-k : goal.decreases-loop-k
-decreases-loop-k l = length l.list - start_of l.k
+abbrev pub invariant-loop-record : goal.invariant-loop-record
+invariant-loop-record l =
+    CheckLeft l.list l.earlier.len × Holds l.earlier l.list × (l.record-iterator.rest.now ≡ drop (start_of l.earlier.len) l.list) × (l.record-iterator.size ≡ record_size)

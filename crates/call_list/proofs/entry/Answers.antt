@@ -1,10 +1,21 @@
--- `entry` reads the two numbers of a record that is there.
+-- `entry` reads a record that is there.
+use mathlib.Core.Path.{ap, ◌∙◌}
+use mathlib.Core.List.{List, []}
+use Prim.Native.Nat.{ℕ}
 use native.Mathlib.Omega.{arith}
+use lib.ListN.{get_or}
+use Rattle.call_list.specs.Parts.{entry_at}
 use Rattle.call_list.proofs.Laws.{entry-there, entry_past}
 use Rattle.call_list.proofs.entry.Goals as goal
 
-pub returns-then-k-list : goal.returns-then-k-list
-returns-then-k-list c = let a = c.args in entry-there a.list.now a.number.0 _ _ (omega arith) c.field_of.ensures c.field_of-then-k-list.ensures
+pub returns-in-Some : goal.returns-in-Some
+returns-in-Some c =
+    let a = c.args in
+    let x = c.in-Some.ensures.lookup.3 in
+    c.entry_in.ensures
+    ∙ ap (λ (r : List ℕ). entry_at r 0) (x.1 [])
+    ∙ ap (λ (rs : List (List ℕ)). entry_at (get_or rs a.number.0 []) 0) c.as_chunks.ensures.front
+    ∙ entry-there a.list.now a.number.0 (omega (arith, x.0, c.as_chunks.ensures.front_len))
 
-pub returns : goal.returns
-returns c = let a = c.args in entry_past a.list.now a.number.0 (omega arith)
+pub returns-in-None : goal.returns-in-None
+returns-in-None c = let a = c.args in entry_past a.list.now a.number.0 (omega (arith, c.in-None.ensures.lookup.3, c.as_chunks.ensures.front_len))

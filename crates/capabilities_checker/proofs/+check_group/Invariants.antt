@@ -9,8 +9,8 @@ use Rattle.capabilities_checker.proofs.+check_group.Given as goal
 abbrev pub decreases-check_group : goal.decreases-check_group
 decreases-check_group l = l.left
 
-abbrev pub invariant-loop-at : goal.invariant-loop-at
-invariant-loop-at l = Going l.room (around l.left) l.initial.at.0 l.count l.at.0 l.n l.text
+abbrev pub invariant-loop-b : goal.invariant-loop-b
+invariant-loop-b l = Going l.room (around l.left) l.initial.at.0 l.count l.at.0 l.n l.text
 
-abbrev pub decreases-loop-at : goal.decreases-loop-at
-decreases-loop-at l = length l.text - l.at.0
+abbrev pub decreases-loop-b : goal.decreases-loop-b
+decreases-loop-b l = length l.text - l.at.0

@@ -1,17 +1,10 @@
-use mathlib.Core.Path.{refl, sym, ap, ◌∙◌}
-use native.Mathlib.Omega.{arith}
-use lib.ListN.{drop_of_length-le}
-use Rattle.checksum.specs.Xor.{xor_all}
-use Rattle.checksum.proofs.Laws.{xor_all-next, xor_all_nil}
+-- `checksum::singly` meets its contract: `fold` takes in one byte after the other.
+use Rattle.std.proofs.Common.{rules, sym, ◌∙◌}
+use lib.Bits.{bit_xor}
+use Rattle.checksum.proofs.Folds.{fold_is}
+use Rattle.checksum.proofs.Laws.{xor_all-fold}
 use Rattle.checksum.proofs.singly.Goals as goal
-
-pub loop-i-init : goal.loop-i-init
-loop-i-init c = (omega arith, refl)
-
-pub loop-i-preserved : goal.loop-i-preserved
-loop-i-preserved c =
-    (omega arith, sym (xor_all-next c.loop-i.acc c.args.s.now c.loop-i.i c.loop-i-test.true) ∙ c.loop-i.invariant.1)
 
 pub returns : goal.returns
 returns c =
-    sym (ap (xor_all c.loop-i.acc) (drop_of_length-le c.args.s.now c.loop-i-test.false) ∙ xor_all_nil _) ∙ c.loop-i.invariant.1
+    fold_is bit_xor (λ sum b next f call. search rules) c.iter.result c.args.s.now _ _ (cc) c.fold.ensures.ran ∙ sym (xor_all-fold c.args.seed c.args.s.now)

@@ -34,8 +34,3 @@ returns-in-TableRead c =
 pub returns-in-TableWrite : goal.returns-in-TableWrite
 returns-in-TableWrite c =
     rw c.in-TableWrite.is (write_prepares c.args.d c.args.table.now _ c.args.out.now _ _ _ _ c.requires.1 c.write.ensures)
-
-pub returns-in-Refused : goal.returns-in-Refused
-returns-in-Refused c =
-    let a = c.args in
-    rw c.in-Refused.is (c.refuse.ensures a.d a.text.now _)

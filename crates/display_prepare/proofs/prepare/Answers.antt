@@ -4,9 +4,18 @@ use Rattle.display_rules.specs.Step.{turn, step}
 use Rattle.display_pending.specs.Pending.{pending_of}
 use Rattle.display_prepare.proofs.prepare.Goals as goal
 
-pub returns-then-lent_well : goal.returns-then-lent_well
+pub returns-in-Ok : goal.returns-in-Ok
 unfolding step turn pending_of
-returns-then-lent_well c = rw (sym c.lent_well.ensures ∙ c.if-lent_well.true, ← c.read_request-request.ensures.means) c.obey.ensures
+returns-in-Ok c =
+    let read = rw c.in-Ok.is at c.read_request.ensures.means in
+    rw (sym c.lent_well.ensures ∙ c.if-lent_well.true, ← read) c.obey.ensures
+
+pub returns-in-Err : goal.returns-in-Err
+unfolding step turn pending_of
+returns-in-Err c =
+    let a = c.args in
+    let read = rw c.in-Err.is at c.read_request.ensures.means in
+    rw (sym c.lent_well.ensures ∙ c.if-lent_well.true, ← read) (c.refuse.ensures a.d a.text.now a.table.now)
 
 pub returns : goal.returns
 unfolding step turn pending_of

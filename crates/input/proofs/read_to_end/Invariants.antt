@@ -1,11 +1,10 @@
 -- `read_to_end` is safe and ends: each turn leaves less room.
-use mathlib.Core.Path.{◌≡◌}
 use Prim.Native.Nat.{◌-◌, ◌≤◌}
 use lib.ListN.{length}
 use Rattle.input.proofs.read_to_end.Given as goal
 
 abbrev pub invariant-loop-at : goal.invariant-loop-at
-invariant-loop-at g l = (l.at ≤ length l.input) × (length l.input ≡ length l.initial.input) × (length l.part ≡ 2048)
+invariant-loop-at g l = l.at ≤ length l.input
 
 abbrev pub decreases-loop-at : goal.decreases-loop-at
-decreases-loop-at g l = length l.input - l.at
+decreases-loop-at g l = length l.initial.input - l.at

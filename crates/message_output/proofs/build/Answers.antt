@@ -8,10 +8,10 @@ use Prim.Native.Nat.{ℕ}
 use native.Mathlib.Omega.{arith}
 use borrow.Author.Tests.{le-leb}
 use Rattle.checksum.specs.Xor.{xor_all}
-use Rattle.message_rules.specs.Answer.{wrong_field}
+use Rattle.std.specs.Prelude.{Err}
 use Rattle.message_rules.specs.Limits.{output_room}
 use Rattle.message_rules.specs.Frame.{closed}
-use Rattle.message_output.specs.declared.Built.TheVariants.{Refused}
+use Rattle.message_rules.specs.declared.refusal.Refusal.TheVariants.{WrongField}
 use Rattle.message_output.proofs.Outputs.{builds-none, builds-refused, builds-done, too_long, short-enough, built}
 use borrow.Author.Rules.{rules}
 use Rattle.message_output.proofs.build.Goals as goal
@@ -23,7 +23,7 @@ pub returns-then-head-data-ge-OUTPUT_ROOM : goal.returns-then-head-data-ge-OUTPU
 returns-then-head-data-ge-OUTPUT_ROOM c =
     let a = c.args in
     builds-refused _ (closed a.seed (a.head.now ++ a.«data».now)) a.out.now (too_long a.seed a.head.now a.«data».now true c.if-head-data-ge-OUTPUT_ROOM.true)
-    (Refused wrong_field) (rw (le-leb output_room (length a.out.now) c.if-out-lt-OUTPUT_ROOM.false))
+    (Err WrongField) (rw (le-leb output_room (length a.out.now) c.if-out-lt-OUTPUT_ROOM.false))
 
 pub returns : goal.returns
 returns c =

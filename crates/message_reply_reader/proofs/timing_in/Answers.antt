@@ -9,4 +9,5 @@ pub returns-then-status_allowed : goal.returns-then-status_allowed
 returns-then-status_allowed c =
     let a = c.args in
     let p = c.requires in
-    reply-read {c = TimingReply} a.s.now p.2 p.1 p.3 refl (timing-read a.s.now c.byte_at-status.ensures c.word_at-horizontal.ensures c.word_at-vertical.ensures (sym c.status_allowed.ensures ∙ c.if-status_allowed.true))
+    let right = sym c.status_allowed.ensures ∙ c.if-status_allowed.true in
+    reply-read {c = TimingReply} a.s.now p.2 p.1 p.3 refl (timing-read a.s.now refl c.from_be_bytes.ensures c.from_be_bytes-then-status_allowed.ensures right)

@@ -9,10 +9,11 @@ pub returns-then-value_allowed : goal.returns-then-value_allowed
 returns-then-value_allowed c =
     let a = c.args in
     let p = c.requires in
-    reply-read {c = Value} a.s.now p.2 p.1 p.3 refl (value_read a.s.now c.byte_at-result.ensures c.byte_at-code.ensures c.byte_at-kind.ensures c.word_at-max.ensures c.word_at-present.ensures (sym c.value_allowed.ensures ∙ c.if-value_allowed.true))
+    let right = sym c.value_allowed.ensures ∙ c.if-value_allowed.true in
+    reply-read {c = Value} a.s.now p.2 p.1 p.3 refl (value_read a.s.now refl refl refl c.from_be_bytes.ensures c.from_be_bytes-then-value_allowed.ensures right)
 
 pub returns : goal.returns
 returns c =
     let a = c.args in
     let p = c.requires in
-    reply-read {c = Value} a.s.now p.2 p.1 p.3 refl (value_wrong a.s.now c.byte_at-result.ensures c.byte_at-kind.ensures (sym c.value_allowed.ensures ∙ c.if-value_allowed.false))
+    reply-read {c = Value} a.s.now p.2 p.1 p.3 refl (value_wrong a.s.now refl refl (sym c.value_allowed.ensures ∙ c.if-value_allowed.false))

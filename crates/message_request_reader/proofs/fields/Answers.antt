@@ -7,4 +7,4 @@ pub returns-in-Text : goal.returns-in-Text
 returns-in-Text c =
     let a = c.args in
     let p = c.requires in
-    request-read a.s.now p.2 p.1 p.3 c.in-Text.is (rw c.word_at.ensures)
+    request-read a.s.now p.2 p.1 p.3 c.in-Text.is (rw c.from_be_bytes-offset.ensures)

@@ -1,15 +1,8 @@
 -- `put_record` puts the head, the code and the value one behind the other.
-use mathlib.Core.Path.{ap, ◌∙◌}
-use mathlib.Core.List.{[], ◌∷◌}
-use Prim.Native.Nat.{ℕ}
-use Rattle.buffers.specs.Buffers.{put_whole}
-use Rattle.records.specs.Numbers.{little_endian}
 use Rattle.profile.proofs.Outputs.{record_parts}
 use Rattle.profile.proofs.put_record.Goals as goal
 
 pub returns : goal.returns
 returns c =
     let a = c.args in
-    record_parts a.out.now a.at.0 a.code a.value c.put_head.new.out c.put_byte.new.out c.put_word.new.out c.requires c.put_head.ensures
-    (c.put_byte.ensures ∙ ap (λ (i : ℕ). put_whole c.put_head.new.out i (a.code ∷ [])) c.after.ensures)
-    (c.put_word.ensures ∙ ap (λ (i : ℕ). put_whole c.put_byte.new.out i (little_endian 2 a.value)) c.after-2.ensures)
+    record_parts a.out.now a.at.0 a.code a.value c.put_head.new.out c.put_byte.new.out c.put_word.new.out c.requires c.put_head.ensures c.put_byte.ensures c.put_word.ensures

@@ -11,8 +11,8 @@ use Rattle.profile.proofs.put_records.Given as goal
 
 abbrev pub invariant-loop-code : goal.invariant-loop-code
 invariant-loop-code l =
-    (l.from ≤ all_codes) × (l.at.0 + record_size * length (codes_from (member l.words) l.from) ≤ length l.out) × (length l.out ≡ length l.initial.out)
-    × (put l.out l.at.0 (records_of l.saved (codes_from (member l.words) l.from)) ≡ put l.initial.out 0 (records_of l.saved (codes_from (member l.words) 0)))
+    (l.from ≤ all_codes) × (l.at + record_size * length (codes_from (member l.words) l.from) ≤ length l.out) × (length l.out ≡ length l.initial.out)
+    × (put l.out l.at (records_of l.saved (codes_from (member l.words) l.from)) ≡ put l.initial.out 0 (records_of l.saved (codes_from (member l.words) 0)))
 
 abbrev pub decreases-loop-code : goal.decreases-loop-code
 decreases-loop-code l = all_codes - l.from

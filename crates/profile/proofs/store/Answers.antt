@@ -1,18 +1,19 @@
--- The invariant reads on by `store_turn`, at the code and the value of the record.
-use mathlib.Core.Path.{sym, ◌∙◌}
-use native.Mathlib.Omega.{arith}
+-- The invariant reads on at the code and the value of the record.
+use Rattle.std.proofs.Common.{◌≡◌, sym, ◌∙◌, arith}
 use Rattle.settings_rules.specs.Values.{with_value}
-use Rattle.profile.proofs.Loading.{store_turn, store_none}
+use Rattle.profile_form.proofs.Laws.{same_setting}
+use Rattle.profile_form_rules.specs.Form.{setting_in}
+use Rattle.profile.proofs.Loading.{store_next, store_none}
 use Rattle.profile.proofs.store.Goals as goal
 
-pub loop-at-preserved : goal.loop-at-preserved
+pub loop-first-preserved : goal.loop-first-preserved
 unfolding with_value
-loop-at-preserved c =
-    let p = c.args.profile.now in
-    let code = c.wide-i.ensures.0 ∙ (rw c.after.ensures at c.byte_at.ensures) in
-    let value = rw c.after-in-loop-at.ensures at c.word_at-value.ensures in
-    rw c.after-at.ensures (omega arith, store_turn c.loop-at.s _ p c.loop-at.at.0 _ _ (omega arith) code value c.loop-at.invariant.1)
+loop-first-preserved c =
+    let l = c.loop-first in
+    let r = c.in-Some.ensures.cases in
+    let size = r.2 in
+    let e : c.said-setting.result ≡ setting_in l.left.now = c.said-setting.ensures ∙ same_setting l.left.now c.in-Some.first.now r.0 in
+    rw (c.from-i.ensures, e, r.1) (sym (store_next l.s l.left.now (omega arith)) ∙ l.invariant)
 
 pub returns : goal.returns
-returns c =
-    sym (store_none c.loop-at.s c.args.profile.now c.loop-at.at.0 (omega arith)) ∙ c.loop-at.invariant.1
+returns c = sym (store_none c.loop-first.s c.loop-first.left.now c.in_default.ensures.cases) ∙ c.loop-first.invariant

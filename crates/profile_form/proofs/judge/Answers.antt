@@ -1,20 +1,31 @@
--- `judge` answers what is left at each record as its definition does; a record that fits is whole, so that a step stays inside.
-use Rattle.std.proofs.Common.{sym, ◌∙◌, arith}
-use Rattle.profile_form.proofs.Laws.{form_starts, form_refused, fitting_whole, form_on, form_ends}
+-- `judge` answers what is left at each record as its definition does.
+use Rattle.std.proofs.Common.{◌≡◌, ap, ◌<◌, length, arith}
+use Rattle.profile_form_rules.specs.declared.Setting.{Setting}
+use Rattle.std.proofs.lemmas.Bool.Decides.{nat_tests}
+use Rattle.profile_form.proofs.Laws.{form_starts, form_none, form_low, form_on, form_ends}
 use Rattle.profile_form.proofs.judge.Goals as goal
+use Rattle.profile_form.proofs.judge.Goals.{in_default-via-in-Some+else-lowest-from, in_default-via-in_default}
 
-pub loop-at-init : goal.loop-at-init
-loop-at-init c = (omega arith, form_starts c.args.profile.now)
+pub loop-left-init : goal.loop-left-init
+loop-left-init c = form_starts c.args.profile.now
 
-pub loop-at-preserved : goal.loop-at-preserved
-loop-at-preserved c =
-    let fitting = sym c.record_fits.ensures ∙ c.if-record_fits.true in
-    let on = form_on c.args.profile.now c.loop-at.lowest c.loop-at.at.0 c.loop-at.invariant.1 c.loop-at-test.true fitting in
-    (fitting_whole c.args.profile.now c.loop-at.lowest c.loop-at.at.0 c.loop-at.invariant.1 c.loop-at-test.true fitting, rw c.code_of-lowest.ensures.0 on)
+pub loop-left-smaller : goal.loop-left-smaller
+loop-left-smaller c =
+    let on = form_on c.args.profile.now c.loop-left.lowest c.loop-left.left.now c.loop-left.invariant c.in-Some.setting c.in-Some.behind.now c.in-Some.ensures (omega (arith, c.from.ensures)) in on.1
 
-pub returns-else-record_fits : goal.returns-else-record_fits
-returns-else-record_fits c =
-    form_refused c.args.profile.now c.loop-at.lowest c.loop-at.at.0 c.loop-at.invariant.1 c.loop-at-test.true (sym c.record_fits.ensures ∙ c.if-record_fits.false)
+pub loop-left-preserved : goal.loop-left-preserved
+loop-left-preserved c =
+    let on = form_on c.args.profile.now c.loop-left.lowest c.loop-left.left.now c.loop-left.invariant c.in-Some.setting c.in-Some.behind.now c.in-Some.ensures (omega (arith, c.from.ensures)) in
+    rw c.from-lowest.ensures on.0
+
+pub returns-in_default : goal.returns-in_default
+returns-in_default c =
+    let some : 0 < length c.loop-left.left.now = grind (arith, nat_tests) in
+    elim c.in_default.branch [
+      | in_default-via-in-Some+else-lowest-from w ↦
+          form_low c.args.profile.now c.loop-left.lowest c.loop-left.left.now c.loop-left.invariant some (let says = w.in-Some.ensures.says in omega (arith, ap (λ (x : Setting). x.code) says, w.from.ensures))
+      | in_default-via-in_default w ↦ form_none c.args.profile.now c.loop-left.lowest c.loop-left.left.now c.loop-left.invariant some w.in_default.ensures
+    ]
 
 pub returns : goal.returns
-returns c = form_ends c.args.profile.now c.loop-at.lowest c.loop-at.at.0 c.loop-at.invariant.1 c.loop-at-test.false
+returns c = let none : length c.loop-left.left.now ≡ 0 = grind (arith, nat_tests) in form_ends c.args.profile.now c.loop-left.lowest c.loop-left.left.now c.loop-left.invariant none

@@ -6,4 +6,4 @@ use Rattle.display_texts.proofs.answers.read.Goals as goal
 pub returns : goal.returns
 returns c =
     let a = c.args in
-    reads_of a.kind a.text.now a.table.now a.most a.state a.q.0 c.cursor_at-cursor.ensures c.send_at-length.ensures
+    reads_of a.kind a.texts.capabilities.now a.texts.table.now a.most a.state a.q.0 c.cursor_at-cursor.ensures c.send_fragment.ensures

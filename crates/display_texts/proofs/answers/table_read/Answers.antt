@@ -9,5 +9,5 @@ pub returns : goal.returns
 returns c =
     let a = c.args in
     let table = eq-eqb _ _ c.if-code-ne-TABLE_CODE.false in
-    let read = reads_of Table a.text.now a.table.now a.most a.state a.q.0 c.cursor_at-cursor.ensures c.send_at-length.ensures in
+    let read = reads_of Table a.texts.capabilities.now a.texts.table.now a.most a.state a.q.0 c.cursor_at-cursor.ensures c.send_fragment.ensures in
     record { pending = rw table read.pending; leaves = rw table read.leaves }

@@ -9,46 +9,46 @@ use crate::{Position, answer};
 pub enum Refusal {
     // 1: a lent output has under 38 bytes, or another lent slice has a wrong length: so have fewer answers than codes
     // to set, and arrays with fewer entries than two profiles have differences.
-    WrongSize = 1,
+    WrongSize = answer::WRONG_SIZE as isize,
     // 2: a message has under 3 bytes.
-    TooShort,
+    TooShort = answer::TOO_SHORT as isize,
     // 3: a message's first byte is wrong.
-    WrongFirstByte,
+    WrongFirstByte = answer::WRONG_FIRST_BYTE as isize,
     // 4: a message's length byte is wrong, or the slice does not agree with it.
-    WrongLength,
+    WrongLength = answer::WRONG_LENGTH as isize,
     // 5: a message's checksum is wrong.
-    WrongChecksum,
+    WrongChecksum = answer::WRONG_CHECKSUM as isize,
     // 6: a message's command is not in the table of messages, or a request has no body.
-    UnknownCommand,
+    UnknownCommand = answer::UNKNOWN_COMMAND as isize,
     // 7: a body's length or a field is wrong for the command, or a builder was given such a field.
     // Or a call has over 64 settings, or unequally many codes and values.
-    WrongField,
+    WrongField = answer::WRONG_FIELD as isize,
     // 8: the code is not allowed here.
-    CodeNotAllowed,
+    CodeNotAllowed = answer::CODE_NOT_ALLOWED as isize,
     // 9: the value is above the code's maximum.
-    ValueTooLarge,
+    ValueTooLarge = answer::VALUE_TOO_LARGE as isize,
     // 10: the offset or the fragment is not the one wanted.
-    NotWanted,
+    NotWanted = answer::NOT_WANTED as isize,
     // 11: the text is too long for its room, or the call list is over 1,024 bytes.
-    TextTooLong,
+    TextTooLong = answer::TEXT_TOO_LONG as isize,
     // 12: the host read the null message.
-    NullMessage,
+    NullMessage = answer::NULL_MESSAGE as isize,
     // 13: the capabilities string is not in the grammar.
-    WrongGrammar,
+    WrongGrammar = answer::WRONG_GRAMMAR as isize,
     // 14: the capabilities string has a word for which no node is left.
-    NoNodeRoom,
+    NoNodeRoom = answer::NO_NODE_ROOM as isize,
     // 15: the capabilities string has groups more than 8 deep.
-    TooDeep,
+    TooDeep = answer::TOO_DEEP as isize,
     // 16: the transfer was closed already.
-    TransferClosed,
+    TransferClosed = answer::TRANSFER_CLOSED as isize,
     // 17: the profile is broken, or a record of the call list; by a profile's form alone, its codes do not rise.
-    BrokenRecord,
+    BrokenRecord = answer::BROKEN_RECORD as isize,
     // 18: the declaration, the fragment size or the budget is not allowed.
-    NotDeclarable,
+    NotDeclarable = answer::NOT_DECLARABLE as isize,
     // 19: a record of the call list has a token of an earlier one.
-    RepeatedToken,
+    RepeatedToken = answer::REPEATED_TOKEN as isize,
     // 20: a record of the call list has a household of an earlier one.
-    RepeatedHousehold,
+    RepeatedHousehold = answer::REPEATED_HOUSEHOLD as isize,
 }
 
 impl From<Refusal> for u8 {

@@ -6,7 +6,7 @@
 ghost use Rattle.std.specs.Prelude.{◌≡◌, get_or, set};
 ghost use Rattle.codes.specs.Codes.{member, count_of, next_of};
 ghost use Rattle.message_rules.specs.Refusal.{answer_number};
-ghost use Rattle.settings_rules.specs.Results.{judgement_of, feature_of};
+ghost use Rattle.settings_rules.specs.Results.{started_as, declared_as, judgement_of, feature_of};
 ghost use Rattle.settings_rules.specs.Settings.{empty_settings, starting_settings, start_with, exceeds_maximum, access_refused, declaration_refused, with_declaration, declare_code, answer_to_set, judge_set, save_all, get_code};
 
 use message_rules::TABLE_CODE;
@@ -54,6 +54,15 @@ pub fn judge_start(timing: Timing) -> Result<(), Refusal>
         return Ok(());
     }
     Err(Refusal::NotDeclarable)
+}
+
+// Returns settings with a timing and no code yet, or the refusal of the timing; a refused start leaves `empty`.
+// A display's start takes the two steps one by one, since the settings would be copied once more in the Result.
+pub fn start(timing: Timing) -> Result<Settings, Refusal>
+    ensures { started_as result ≡ start_with timing }
+{
+    judge_start(timing)?;
+    Ok(starting(timing))
 }
 
 // Returns whether the value is above the maximum of a continuous code.
@@ -112,6 +121,16 @@ pub fn judge_declaration(s: Settings, d: Declaration) -> Result<(), Refusal>
         return Err(Refusal::NotDeclarable);
     }
     Ok(())
+}
+
+// Returns the settings with the code declared, or the refusal of the declaration, which leaves them as they were.
+// A display's declaration takes the two steps one by one, as its start does.
+#[tactic(auto, unfolding(settings_rules::specs::Settings::declare_code))]
+pub fn declare(s: Settings, d: Declaration) -> Result<Settings, Refusal>
+    ensures { declared_as s result ≡ declare_code s d }
+{
+    judge_declaration(s, d)?;
+    Ok(with_declaration(s, d))
 }
 
 // Returns how many codes are declared, at most 256.

@@ -3,10 +3,21 @@ use Rattle.std.specs.Prelude.{ℕ, true, false, Result, Ok, Err, Option, Some, N
 use Rattle.message_rules.specs.Answer.{done}
 use Rattle.message_rules.specs.Refusal.{number_of}
 use Rattle.message_rules.specs.declared.refusal.Refusal.{Refusal}
-use Rattle.settings_rules.specs.Settings.{Feature, Judgement, type_number}
+use Rattle.settings_rules.specs.Settings.{Change, Feature, Judgement, empty_settings, type_number}
+use Rattle.settings_rules.specs.declared.Settings.{Settings}
 use Rattle.settings_rules.specs.declared.Accepted.{Accepted}
 use Rattle.settings_rules.specs.declared.Accepted.TheVariants.{Stored, Momentary}
 use Rattle.settings_rules.specs.declared.Shown.{Shown}
+
+-- the settings of a start; "A refused start gives an empty board"
+abbrev pub started_as : Result Settings Refusal → Change
+started_as (Ok s) = record { answer = done; settings = s }
+started_as (Err r) = record { answer = number_of r; settings = empty_settings }
+
+-- the settings with a code declared; a declaration that is refused leaves those that there were
+abbrev pub declared_as : Settings → Result Settings Refusal → Change
+declared_as s (Ok t) = record { answer = done; settings = t }
+declared_as s (Err r) = record { answer = number_of r; settings = s }
 
 -- a Set that is accepted, stored or not, or its refusal's number
 abbrev pub judgement_of : Result Accepted Refusal → Judgement

@@ -29,25 +29,25 @@ pub struct Carried {
     pub len: usize,
 }
 
-// The indices of a frame's first byte, of its length byte, and of the command number that a body starts with.
-const FIRST_BYTE: usize = 0;
+// The positions of a frame's first byte, of its length byte, and of the command number that a body starts with.
+const FIRST_BYTE: Position = Position(0);
 
-const LENGTH_BYTE: usize = 1;
+const LENGTH_BYTE: Position = Position(1);
 
-const COMMAND: usize = 2;
+const COMMAND: Position = Position(2);
 
 // Returns the byte where a body has its command number.
 pub fn command(s: &[u8]) -> u8
     ensures { result ≡ get_or s.now 2 0 }
 {
-    octet(s, COMMAND)
+    octet(s, COMMAND.0)
 }
 
 // Returns the length of the body by the length byte, in either form.
 pub fn body_length(s: &[u8]) -> usize
     ensures { (result ≡ body_length s.now) × (result < 128) }
 {
-    usize::from(octet(s, LENGTH_BYTE)) % 128
+    usize::from(octet(s, LENGTH_BYTE.0)) % 128
 }
 
 // Returns the length byte of a body of n bytes, in either form.
@@ -88,7 +88,7 @@ pub fn head(direction: Direction, a: Address, s: &[u8]) -> Result<(), Refusal>
     if s.len() < 3 {
         return Err(Refusal::TooShort);
     }
-    if octet(s, FIRST_BYTE) != a.first {
+    if octet(s, FIRST_BYTE.0) != a.first {
         return Err(Refusal::WrongFirstByte);
     }
     let n = body_length(s);
@@ -102,11 +102,11 @@ pub fn head(direction: Direction, a: Address, s: &[u8]) -> Result<(), Refusal>
 // The last byte is compared with the checksum of those in front of it.
 // A slice that ends before its last byte counts as one that has 0 there: behind the head's tests there is none.
 #[tactic(auto, unfolding(crate::specs::Parts::tail_answer))]
-fn tail(a: Address, plain: bool, s: &[u8]) -> Result<(), Refusal>
+pub fn tail(a: Address, plain: bool, s: &[u8]) -> Result<(), Refusal>
     ensures { answer_number result ≡ tail_answer a plain s.now }
 {
     let n = body_length(s);
-    if usize::from(octet(s, LENGTH_BYTE)) != length_byte(plain, n) {
+    if usize::from(octet(s, LENGTH_BYTE.0)) != length_byte(plain, n) {
         return Err(Refusal::WrongLength);
     }
     let summed = &s[..(n + 2).min(s.len())];

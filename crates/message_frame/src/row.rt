@@ -45,7 +45,7 @@ pub struct SizedRow<K> {
 }
 
 // Returns whether a body of n bytes is right for the shape.
-fn length_right(shape: Shape, n: usize) -> bool
+pub fn length_right(shape: Shape, n: usize) -> bool
     ensures { result ≡ length_right shape n }
 {
     shape.least <= n && n - shape.least <= shape.data

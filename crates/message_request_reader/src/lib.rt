@@ -25,16 +25,16 @@ pub enum RequestRead {
     TableWrite { code: u8, data: Carried },
 }
 
-// The indices of a request's fields, behind its command number.
-const CODE: usize = 3;
+// The positions of a request's fields, behind its command number.
+const CODE: Position = Position(3);
 
-const VALUE: usize = 4;
+const VALUE: Position = Position(4);
 
-const TEXT_OFFSET: usize = 3;
+const TEXT_OFFSET: Position = Position(3);
 
-const TABLE_OFFSET: usize = 4;
+const TABLE_OFFSET: Position = Position(4);
 
-const DATA: usize = 6;
+const DATA: Position = Position(6);
 
 // Returns the fields of a body of this kind, whose length is right.
 fn fields(kind: RequestKind, s: &[u8]) -> RequestRead
@@ -42,36 +42,36 @@ fn fields(kind: RequestKind, s: &[u8]) -> RequestRead
     ensures { RequestMeans s.now (Ok result) (body_in requests (row.Request kind) s.now) }
 {
     match kind {
-        RequestKind::Get => RequestRead::Get(s[CODE]),
+        RequestKind::Get => RequestRead::Get(s[CODE.0]),
         RequestKind::Set => {
-            let value = u16::from_be_bytes([s[VALUE], s[VALUE + 1]]);
+            let value = u16::from_be_bytes([s[VALUE.0], s[VALUE.0 + 1]]);
             RequestRead::Set {
-                code: s[CODE],
+                code: s[CODE.0],
                 value,
             }
         }
         RequestKind::Timing => RequestRead::Timing,
         RequestKind::Save => RequestRead::Save,
         RequestKind::Text => {
-            let offset = u16::from_be_bytes([s[TEXT_OFFSET], s[TEXT_OFFSET + 1]]);
+            let offset = u16::from_be_bytes([s[TEXT_OFFSET.0], s[TEXT_OFFSET.0 + 1]]);
             RequestRead::Text(TextOffset(offset))
         }
         RequestKind::TableRead => {
-            let offset = u16::from_be_bytes([s[TABLE_OFFSET], s[TABLE_OFFSET + 1]]);
+            let offset = u16::from_be_bytes([s[TABLE_OFFSET.0], s[TABLE_OFFSET.0 + 1]]);
             RequestRead::TableRead {
-                code: s[CODE],
+                code: s[CODE.0],
                 offset: TextOffset(offset),
             }
         }
         RequestKind::TableWrite => {
-            let offset = u16::from_be_bytes([s[TABLE_OFFSET], s[TABLE_OFFSET + 1]]);
+            let offset = u16::from_be_bytes([s[TABLE_OFFSET.0], s[TABLE_OFFSET.0 + 1]]);
             let data = Carried {
                 offset: TextOffset(offset),
-                at: Position(DATA),
+                at: DATA,
                 len: message_frame::body_length(s) - 4,
             };
             RequestRead::TableWrite {
-                code: s[CODE],
+                code: s[CODE.0],
                 data,
             }
         }

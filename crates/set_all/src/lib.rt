@@ -2,7 +2,8 @@
 // What it leaves is proved to be what that many Sets leave, one after the other.
 #![tactic(auto)]
 
-ghost use Rattle.std.specs.Prelude.{◌≡◌, ◌≤◌, length};
+ghost use Rattle.std.specs.Prelude.{◌≡◌, ◌≤◌, not, length};
+ghost use Rattle.codes.specs.Codes.{member};
 ghost use Rattle.message_rules.specs.Answer.{done};
 ghost use Rattle.message_rules.specs.Refusal.{answer_number};
 ghost use Rattle.set_all_rules.specs.SetAll.{try_all, call_answer, left_by_all, set_all};
@@ -10,7 +11,7 @@ ghost use Rattle.set_all.specs.Parts.{answer_by, left_of};
 
 use codes::{both, contains};
 use message_rules::answer::DONE;
-use message_rules::refusal::{Refusal, number};
+use message_rules::refusal::Refusal;
 use set_all_rules::{AllSet, MOST_SETTINGS};
 use settings::{exceeds, set_answer};
 use settings_rules::Settings;
@@ -49,6 +50,13 @@ fn answer_to(
     set_answer(may, code, may, above)
 }
 
+// Returns whether the value of a code is kept: that of a momentary one is not.
+fn is_kept(momentary: &[u64; 4], code: u8) -> bool
+    ensures { result ≡ not (member momentary.now code) }
+{
+    !contains(momentary, code)
+}
+
 // Tries one setting after the other, and writes the answer of each at its place.
 // Returns the present values afterwards.
 // All that judges a Set is taken out of the settings once, so that nothing large is copied for each.
@@ -64,12 +72,14 @@ fn try_all(s: Settings, codes: &[u8], values: &[u16], answers: &mut [u8]) -> [u1
     let mut present = s.present;
     for (k, code) in codes.iter().enumerate() {
         let value = values[k];
-        let i = usize::from(*code);
-        let answer = number(&answer_to(&settable, &continuous, &maximum, *code, value));
-        answers[k] = answer;
-        let stored = answer == DONE && !contains(&momentary, *code);
-        if stored {
-            present[i] = value;
+        match answer_to(&settable, &continuous, &maximum, *code, value) {
+            Ok(()) => {
+                answers[k] = DONE;
+                if is_kept(&momentary, *code) {
+                    present[usize::from(*code)] = value;
+                }
+            }
+            Err(refusal) => answers[k] = u8::from(refusal),
         }
     }
     present

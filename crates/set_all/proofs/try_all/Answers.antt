@@ -1,36 +1,40 @@
 -- The setting that was tried is judged as its Set is: it is stored, or momentary, or refused, and what is left leaves the same.
-use Rattle.std.proofs.Common.{◌≡◌, cond, not, ◌&&◌, set, get_or, eqb, refl, sym, ◌∙◌, arith}
-use borrow.Author.Tests.{eq-eqb, ne_eqb}
+use Rattle.std.proofs.Common.{◌≡◌, cond, not, ◌&&◌, set, get_or, eqb, refl, sym, ap, ◌∙◌, arith, true, false, Ok, Err, ℕ}
 use Rattle.codes.specs.Codes.{member}
 use Rattle.message_rules.specs.Answer.{done}
+use Rattle.message_rules.specs.Refusal.{answer_number, number_of}
+use Rattle.message_rules.proofs.Refusals.{refused-by_number}
+use Rattle.set_all.specs.Parts.{answer_by}
 use Rattle.set_all.proofs.Laws.{Judged, going_ends, goes-on}
-use Rattle.set_all.proofs.try_all.Goals.{then-answer-eq-DONE, else-answer-eq-DONE, then-stored, else-stored}
+use Rattle.set_all.proofs.try_all.Goals.{in-Ok+then-is_kept, in-Ok+else-is_kept, in-Err}
 use Rattle.set_all.proofs.try_all.Goals as goal
 
 pub loop-k-preserved : goal.loop-k-preserved
 loop-k-preserved c =
-    let answer = c.number-answer.result in
+    let s = c.args.s in
     let code = get_or c.args.codes.now c.loop-k.k 0 in
-    let stored = c.if-answer-eq-DONE.stored in
-    let judged : Judged c.both-settable.result c.args.s.momentary c.args.s.continuous c.args.s.maximum c.args.s.present c.args.codes.now c.args.values.now c.args.answers.now c.loop-k.present c.loop-k.answers c.loop-k.k c.from-i.result answer =
-    record {
+    let value = get_or c.args.values.now c.loop-k.k 0 in
+    let judged : (a : ℕ) → a ≡ answer_number c.answer_to.result
+    → Judged c.both-settable.result s.momentary s.continuous s.maximum s.present c.args.codes.now c.args.values.now c.args.answers.now c.loop-k.present c.loop-k.answers c.loop-k.k code a =
+    λ a e. record {
       standing = c.loop-k.invariant;
       inside = c.loop-k-test.true;
-      index = c.from-i.ensures;
-      low = omega (arith, c.type_inv.codes c.loop-k.k, c.from-i.ensures);
-      answer = c.number-answer.ensures ∙ c.answer_to.ensures;
+      index = refl;
+      low = (c.type_inv.codes c.loop-k.k).fits;
+      answer = e ∙ c.answer_to.ensures;
     } in
-    let kept : stored ≡ (eqb answer done && not (member c.args.s.momentary code)) =
-    elim c.if-answer-eq-DONE.branch [
-      | then-answer-eq-DONE w ↦ rw (eq-eqb answer done w.if-answer-eq-DONE.true, ← w.contains.ensures) w.stored-is
-      | else-answer-eq-DONE w ↦ let refused = ne_eqb answer done w.if-answer-eq-DONE.false in rw refused (w.stored-is ∙ refused)
-    ] in
-    let after : c.if-stored.present ≡ cond stored (set c.loop-k.present c.from-i.result (get_or c.args.values.now c.loop-k.k 0)) c.loop-k.present =
-    elim c.if-stored.branch [
-      | then-stored w ↦ rw w.if-stored.true w.present-is
-      | else-stored w ↦ rw w.if-stored.false w.present-is
-    ] in
-    rw (after, kept) (goes-on _ _ _ _ _ _ _ _ _ _ _ _ _ judged)
+    elim c.match-answer_to.branch [
+      | in-Ok+then-is_kept w ↦
+          let kept : not (member s.momentary code) ≡ true = sym w.is_kept.ensures ∙ w.if-is_kept.true in
+          rw (w.present-is, w.answers-is, w.from.ensures) (rw kept at (goes-on _ _ _ _ _ _ _ _ _ _ _ _ _ (judged done (ap answer_number (sym w.in-Ok.is)))))
+      | in-Ok+else-is_kept w ↦
+          let not_kept : not (member s.momentary code) ≡ false = sym w.is_kept.ensures ∙ w.if-is_kept.false in
+          rw (w.present-is, w.answers-is) (rw not_kept at (goes-on _ _ _ _ _ _ _ _ _ _ _ _ _ (judged done (ap answer_number (sym w.in-Ok.is)))))
+      | in-Err w ↦
+          let r = w.in-Err.refusal in
+          rw (w.present-is, w.answers-is, w.from-in-Err.ensures)
+          (rw (refused-by_number r) at (goes-on _ _ _ _ _ _ _ _ _ _ _ _ _ (judged (number_of r) (ap answer_number (sym w.in-Err.is)))))
+    ]
 
 pub returns : goal.returns
 returns c =

@@ -5,18 +5,18 @@ use Prim.Native.Nat.{ℕ, zero, suc, ◌+◌, ◌*◌, ◌/◌, ◌%◌, ◌^◌
 use mathlib.Core.List.{List, [], ◌∷◌, ◌++◌}
 use native.Mathlib.Omega.{arith}
 use lib.ListN.{length, get_or, take, drop, length-drop}
-use lib.Seq.{drop-drop, length-take-le, take-add}
+use lib.Seq.{drop-cons, drop-drop, length-take-le, take-add}
 use lib.Arith.{digits_lt, digits_div, digits_mod}
 use lib.Pow.{pow-add, shl_exact, shr-shr}
 use lib.Bits.{bit_or, bit_xor, or_shifted_r, xor_comm, xor_mod, xor_shr, xor_zero_l, xor_zero_r}
 use Rattle.std.specs.Int.{from_le_bytes}
 use Rattle.std.specs.List.{fold}
 use Rattle.std.specs.Simd.{first_chunks}
-use Rattle.std.proofs.Common.{w64}
+use Rattle.std.proofs.Common.{w64, take_all}
 use Rattle.checksum.specs.Bytes.{Bytes, none, more}
 use Rattle.checksum.specs.Words.{packed, folded}
 use Rattle.checksum.specs.Xor.{xor_all}
-use Rattle.checksum.proofs.Bytes.{bytes_of, bytes_take, bytes_drop}
+use Rattle.checksum.proofs.Bytes.{bytes_of, bytes-at, bytes_take, bytes_drop}
 use Rattle.checksum.proofs.Laws.{xor_assoc, xor_all-append, xor_all_cons, xor_all_nil, xor_all_seed}
 
 -- ---- bytes as one number
@@ -26,6 +26,11 @@ eight_more : (n : ℕ) → 2 ^ (8 * suc n) ≡ 2 ^ (8 * n) * 256
 eight_more n =
     let bits : 8 * suc n ≡ 8 * n + 8 = omega arith in
     ap (λ (k : ℕ). 2 ^ k) bits ∙ pow-add 2 (8 * n) 8
+
+-- one byte is its own number
+pub packed-one : (s : List ℕ) (at : ℕ) → at < length s → packed (take 1 (drop at s)) ≡ get_or s at 0
+unfolding packed
+packed-one s at h = ap (λ (l : List ℕ). packed (take 1 l)) (drop-cons s at 0 h) ∙ omega arith
 
 packed_lt : {s : List ℕ} → Bytes s → packed s < 2 ^ (8 * length s)
 unfolding packed
@@ -62,6 +67,12 @@ packed-eight : (w : List ℕ) → length w ≡ 8 → from_le_bytes w64 w ≡ pac
 unfolding packed
 packed-eight (a ∷ b ∷ c ∷ d ∷ e ∷ f ∷ g ∷ h ∷ []) l = omega arith
 packed-eight w l = absurd (omega arith)
+
+-- that number is the two halves, the upper one shifted past the lower one: neither memory's order nor alignment is in it
+pub by_halves : (w : List ℕ) → ((i : ℕ) → get_or w i 0 < 256) → length w ≡ 8
+    → from_le_bytes w64 w ≡ bit_or (packed (take 4 w)) ((packed (take 4 (drop 4 w)) * 2 ^ 32) % 2 ^ 64)
+by_halves w hb l =
+    packed-eight w l ∙ ap packed (sym (take_all 8 w (omega arith))) ∙ sym (packed_doubled 4 _ _ w 0 hb (omega arith) (omega arith) refl refl)
 
 -- ---- the bytes of a number taken together
 
@@ -144,10 +155,10 @@ word_in acc w = bit_xor acc (from_le_bytes w64 w)
 
 word-taken : (acc : ℕ) (w : List ℕ) → Bytes w → length w ≡ 8 → folded 8 (word_in acc w) ≡ xor_all (folded 8 acc) w
 word-taken acc w b l =
-    folded_xor 8 acc (from_le_bytes w64 w)
-    ∙ ap (bit_xor (folded 8 acc)) (ap (folded 8) (packed-eight w l) ∙ ap (λ (n : ℕ). folded n (packed w)) (sym l) ∙ folded-packed b)
-    ∙ sym (xor_all_seed (folded 8 acc) 0 w)
-    ∙ ap (λ (x : ℕ). xor_all x w) (xor_zero_r (folded 8 acc))
+    let all : take 8 w ≡ w = take_all 8 w (omega arith) in
+    ap (λ (x : ℕ). folded 8 (bit_xor acc x)) (packed-eight w l ∙ ap packed (sym all))
+    ∙ folded-next 8 (folded 8 acc) acc 0 w (bytes-at b) (omega arith) (sym (xor_all_nil (folded 8 acc)))
+    ∙ ap (xor_all (folded 8 acc)) all
 
 -- the first k words are taken in one after the other
 pub words_taken : (k acc : ℕ) (s : List ℕ) → Bytes s → k * 8 ≤ length s

@@ -1,10 +1,10 @@
 -- Numbers as bytes: a number and its bytes give each other back, over the width.
 use mathlib.Core.Path.{◌≡◌, refl, sym, ap, ap₂, ◌∙◌}
 use mathlib.Core.List.{List, [], ◌∷◌, ◌++◌}
-use Prim.Native.Nat.{ℕ, zero, suc, ◌+◌, ◌*◌, ◌/◌, ◌%◌, ◌<◌}
+use Prim.Native.Nat.{ℕ, zero, suc, ◌+◌, ◌*◌, ◌/◌, ◌%◌, ◌≤◌, ◌<◌}
 use native.Mathlib.Nat.{div-add-mod'}
 use native.Mathlib.Omega.{arith}
-use lib.ListN.{length, get_or, take, drop}
+use lib.ListN.{length, get_or, take, drop, get_or-eq_default}
 use lib.Seq.{get_or-append-add, get_or-drop, drop-cons}
 use Rattle.checksum.proofs.Bytes.{bytes-at}
 use Rattle.records.specs.Numbers.{little_endian, number_at}
@@ -96,3 +96,10 @@ low_first = record { two = two; four = four }
         ap₂ (λ (x y : ℕ). x ∷ little_endian 3 y) e f
         ∙ ap₂ (λ (x y : ℕ). a ∷ x ∷ little_endian 2 y) i g
         ∙ ap (λ (t : List ℕ). a ∷ b ∷ t) (two c d l)
+
+-- a byte that is not there counts as 0, and so does a number of such bytes
+pub none-there : (k : ℕ) (s : List ℕ) (i : ℕ) → length s ≤ i → number_at k s i ≡ 0
+none-there zero s i h = refl
+none-there (suc zero) s i h = get_or-eq_default s 0 {n = i} h
+none-there (suc (suc k)) s i h =
+    ap₂ (λ (x y : ℕ). x + y * 256) (get_or-eq_default s 0 {n = i} h) (none-there (suc k) s (i + 1) (omega arith))

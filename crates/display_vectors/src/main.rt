@@ -7,7 +7,8 @@ mod calls;
 
 use bench::{Bench, FILLING, OUT_ROOM, TABLE_BUFFER, holds};
 use buffers::{behind, front, front_mut, octet};
-use message_rules::{answer, refusal};
+use ddcci_display::ddcci_display_load_profile;
+use message_rules::refusal;
 use settings_rules::{Declaration, Timing};
 use streams::{STDIN_FILENO, STDOUT_FILENO};
 
@@ -125,17 +126,12 @@ fn writes_profile(b: &Bench, row: Row) -> bool {
     refusal::number(&written) == row.answer() && holds(&out, written.unwrap_or(0), row.bytes())
 }
 
-// Loads a profile.
+// Loads a profile, as C does: the position comes with either answer there.
 // Returns whether the answer and the position behind it are due.
 fn load_profile(b: &mut Bench, row: Row) -> bool {
-    let (answer, position) = match profile::load(b.display.settings, row.given) {
-        Ok(settings) => {
-            b.display.settings = settings;
-            (answer::DONE, row.given.len())
-        }
-        Err(refused) => (u8::from(refused.refusal), refused.position.0),
-    };
-    answer == row.answer() && position == length(row.due, 1) && row.due.len() == 3
+    let loaded = ddcci_display_load_profile(b.display, row.given);
+    b.display = loaded.display;
+    loaded.answer == row.answer() && loaded.position == length(row.due, 1) && row.due.len() == 3
 }
 
 // Makes many settings in one call.

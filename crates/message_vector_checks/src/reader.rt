@@ -81,8 +81,10 @@ fn read(to_host: bool, s: &[u8]) -> Result<Reading, u8> {
             .map(of_request)
             .map_err(u8::from);
     }
+    // The answer alone is kept of the first reading while the second is made.
+    let any = refusal::number(&read_reply(TO_HOST, s));
     let own = read_display_reply(s);
-    if refusal::number(&read_reply(TO_HOST, s)) != refusal::number(&own) {
+    if any != refusal::number(&own) {
         return Err(number::DISAGREE);
     }
     own.map(of_reply).map_err(u8::from)

@@ -57,10 +57,17 @@ pub fn hex(to: i32, b: u8) {
     text(to, &digits);
 }
 
+// Writes a space, and a byte in two hexadecimal digits.
+// In one write, so that a full pipe takes a byte whole or not at all.
+fn spaced_hex(to: i32, b: u8) {
+    let mut spaced = *b"   ";
+    put_hex(&mut spaced, 1, b);
+    text(to, &spaced);
+}
+
 // Writes bytes in hexadecimal, a space in front of each.
 pub fn row(to: i32, s: &[u8]) {
     for b in s {
-        text(to, b" ");
-        hex(to, *b);
+        spaced_hex(to, *b);
     }
 }

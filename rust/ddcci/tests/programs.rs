@@ -1,12 +1,12 @@
 //! `capabilities_tree`, `gate_check` and `compare_profiles`: what goes to standard output, and what they tell people on
-//! standard error.
+//! standard error. `day`: what goes out in one write.
 mod common;
-use common::program;
+use common::{program, text_of};
 use std::ffi::OsStr;
 use std::fs::{self, File};
 use std::io::Write;
 use std::os::fd::OwnedFd;
-use std::os::unix::net::UnixStream;
+use std::os::unix::net::{UnixDatagram, UnixStream};
 use std::path::{Path, PathBuf};
 use std::process::{Child, Command, Stdio};
 use std::thread::{sleep, spawn};
@@ -435,4 +435,32 @@ fn profiles_that_come_in_pieces_are_read_whole() {
     }
     let empty = folder.file("empty", b"");
     assert_eq!(compare(&empty, &folder.pipe("all", &all_codes(0), 100)), lines(all));
+}
+
+/// What `day` writes to standard output, each write by itself: a datagram socket keeps them apart.
+fn writes_of_the_day() -> Vec<String> {
+    let (from, to) = UnixDatagram::pair().unwrap();
+    from.set_read_timeout(Some(Duration::from_secs(60))).unwrap();
+    let mut command = Command::new(program("day"));
+    let mut child = command.stdin(Stdio::null()).stdout(OwnedFd::from(to)).spawn().expect("the program starts");
+    let wanted = text_of("crates/day/stdout");
+    let mut writes: Vec<String> = vec![];
+    while writes.iter().map(String::len).sum::<usize>() < wanted.len() {
+        let mut room = [0; 4096];
+        let len = from.recv(&mut room).expect("it writes on");
+        writes.push(std::str::from_utf8(&room[..len]).expect("it writes text").into());
+    }
+    assert!(child.wait().expect("it ends").success());
+    assert_eq!(writes.concat(), wanted);
+    writes
+}
+
+/// A full pipe takes a write of so few bytes whole or not at all, so a space goes out with the digits behind it.
+#[test]
+fn a_byte_of_a_row_is_one_write() {
+    let writes = writes_of_the_day();
+    for row in ["05 00 01 00 10 46 00", "05 00 01 00 12 32 00", "05 00 01 00 60 0F 00"] {
+        let bytes: Vec<String> = row.split(' ').map(|byte| format!(" {byte}")).collect();
+        assert!(writes.windows(bytes.len()).any(|part| part == bytes), "{row}: {writes:?}");
+    }
 }

@@ -3,7 +3,7 @@
 // The first parameter is where to: standard output or standard error.
 // It is a descriptor and no writer of std: that would rest on the C library's errno too, and ask each program for its
 // runtime.
-// No contract can speak of what is written: these functions are proved safe and ending, and show_vectors and the day
+// No contract can speak of what is written: these functions are proved safe and ending, and show_vectors and day
 // run them.
 #![tactic(auto)]
 
@@ -61,7 +61,7 @@ pub fn hex(to: i32, b: u8) {
 // Writes a space, and a byte in two hexadecimal digits.
 // In one write, so that a full pipe takes the space with both digits, or nothing.
 fn spaced_hex(to: i32, b: u8) {
-    let mut spaced = *b"   ";
+    let mut spaced = [b' '; 3];
     put_hex(&mut spaced, 1, b);
     text(to, &spaced);
 }
